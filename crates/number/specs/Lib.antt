@@ -1,0 +1,4 @@
+pub mod Number
+pub mod Place
+pub mod Ends
+pub mod Fraction

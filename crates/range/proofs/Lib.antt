@@ -1,0 +1,5 @@
+pub mod Codes
+pub mod Bounding
+pub mod Ordering
+pub mod Comparing
+pub mod Connecting

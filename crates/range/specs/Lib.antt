@@ -1,0 +1,6 @@
+pub mod Held
+pub mod Hull
+pub mod Outcomes
+pub mod Truths
+pub mod Bounds
+pub mod Entries

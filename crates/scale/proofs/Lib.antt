@@ -1,0 +1,6 @@
+pub mod Told
+pub mod Wholes
+pub mod Placing
+pub mod Counting
+pub mod Rule
+pub mod Steps

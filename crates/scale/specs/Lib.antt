@@ -1,0 +1,7 @@
+pub mod Scale
+pub mod Rounded
+pub mod Marked
+pub mod Ruled
+pub mod Sliding
+pub mod Quotient
+pub mod Faults
