@@ -3,3 +3,5 @@ pub mod Bounding
 pub mod Ordering
 pub mod Comparing
 pub mod Connecting
+pub mod Corners
+pub mod Working

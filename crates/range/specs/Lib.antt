@@ -4,3 +4,5 @@ pub mod Outcomes
 pub mod Truths
 pub mod Bounds
 pub mod Entries
+pub mod Corner
+pub mod Worked

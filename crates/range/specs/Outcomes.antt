@@ -6,7 +6,7 @@ use mathlib.Core.Bool.{Bool, true, false}
 use Rattle.std.specs.declared.option.Option.the-variants.{Some}
 use Rattle.number.specs.declared.Fraction.{Fraction}
 use Rattle.number.specs.Number.{Number, _≼_, _≃_, neg, over}
-use Rattle.number.specs.Place.{Set, Outcomes, Positive-part, Negative-part}
+use Rattle.number.specs.Place.{Set, Outcomes, Products, Positive-part, Negative-part}
 use Rattle.number.specs.Fraction.{value}
 
 -- the value of a fraction, however it is written
@@ -15,6 +15,10 @@ Constant f z = (x : Number) × (value f ≡ Some x) × (x ≃ z)
 
 abbrev pub Negations : (Number → Type 0) → Number → Type 0
 Negations Y z = (y : Number) × Y y × (neg y ≃ z)
+
+-- a range times itself, the two factors chosen apart
+abbrev pub Squares : (Number → Type 0) → Number → Type 0
+Squares Y = Products Y Y
 
 -- quotients by the divisors below 0, and by those above it
 abbrev pub Quotients⁻ : (Number → Type 0) → (Number → Type 0) → Number → Type 0

@@ -1,9 +1,21 @@
 //! Ranges and verdicts: the tightest range that a scale can write round the exact outcomes of an operation. One text for all scales.
+mod arithmetic;
+mod corner;
 mod entry;
 mod order;
 mod range;
 mod verdict;
 
+pub use arithmetic::constant;
+pub use arithmetic::difference;
+pub use arithmetic::negation;
+pub use arithmetic::parted;
+pub use arithmetic::product;
+pub use arithmetic::quotient;
+pub use arithmetic::quotient_negative;
+pub use arithmetic::quotient_positive;
+pub use arithmetic::square;
+pub use arithmetic::sum;
 pub use entry::Entry;
 pub use entry::EntryDebug;
 pub use entry::EntryPartialEq;
