@@ -1,0 +1,12 @@
+pub mod Faults
+pub mod Rules
+pub mod Operations
+pub mod Files
+pub mod Filing
+pub mod Instructions
+pub mod Depths
+pub mod Lines
+pub mod Clearing
+pub mod Tallies
+pub mod Workable
+pub mod Held
