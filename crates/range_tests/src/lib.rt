@@ -1,6 +1,6 @@
 //! Worked examples of the operations on ranges, on both scales, against values worked out by hand.
 //!
-//! On the ruled scale with division 10 the code c is c/10. On the sliding scale 1 is the code 4,096, 2 is 8,192, 3 is 10,240, 4 is 12,288, 5 is 13,312, 12 is 18,432 and 15 is 19,968,
+//! On the ruled scale with division 10 the code c is c/10. On the sliding scale 1 is the code 4,096, 2 is 8,192, 3 is 10,240, 4 is 12,288, 5 is 13,312, 6 is 14,336, 9 is 16,896, 12 is 18,432 and 15 is 19,968,
 //! and the codes from -8,192 to 8,192 count 4096ths.
 
 #[cfg(test)]
@@ -187,5 +187,46 @@ mod tests {
         check_eq(Verdict::Impossible.and(Verdict::Void), Verdict::Void)?;
         check_eq(Verdict::Open.or(Verdict::Certain), Verdict::Certain)?;
         check_eq(Verdict::Certain.not(), Verdict::Impossible)
+    }
+
+    // What the tests above try on one scale only.
+    #[test]
+    fn on_the_other_scale() -> Result<(), Fail> {
+        check_eq(
+            difference(&SlidingScale, range(4096, 8192), range(4096, 4096)),
+            range(0, 4096),
+        )?;
+        check_eq(
+            negation(&SlidingScale, range(-8192, 10240)),
+            range(-10240, 8192),
+        )?;
+        check_eq(
+            square(&SlidingScale, range(-8192, 10240)),
+            range(-14336, 16896),
+        )?;
+        check_eq(
+            constant(&SlidingScale, Fraction { p: 1, q: 3 }),
+            range(1365, 1366),
+        )?;
+        check_eq(join(&SlidingScale, range(1, 2), range(3, 4)), range(1, 4))?;
+        check_eq(meet(&SlidingScale, range(1, 3), range(2, 4)), range(2, 3))?;
+        check_eq(
+            pick(&SlidingScale, Verdict::Certain, range(1, 2), range(3, 4)),
+            range(1, 2),
+        )?;
+        check_eq(
+            at_most(&SlidingScale, range(10, 20), range(20, 30)),
+            Verdict::Certain,
+        )?;
+        check_eq(
+            equal(&SlidingScale, range(10, 10), range(10, 10)),
+            Verdict::Certain,
+        )?;
+        let tenths = RuledScale::new(10)?;
+        check_eq(lesser(&tenths, range(10, 80), range(20, 40)), range(10, 40))?;
+        check_eq(
+            greater(&tenths, range(10, 80), range(20, 40)),
+            range(20, 80),
+        )
     }
 }
