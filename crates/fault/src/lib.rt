@@ -1,4 +1,5 @@
 //! What every refusal tells, whichever layer refuses.
+#![tactic(auto)]
 ghost use Rattle.std.specs.Prelude.{◌≡◌};
 ghost use Rattle.fault.specs.Layers.{layer_name};
 ghost use Rattle.fault.specs.Told.{refused};

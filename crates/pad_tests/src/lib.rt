@@ -1,6 +1,7 @@
 //! Tests of the pad's calls, on both scales, with sheets and values worked out by hand.
 //!
 //! On the ruled scale with division 10 the code c is c/10. On the sliding scale 1 is the code 4,096, 2 is 8,192, 3 is 10,240, 4 is 12,288, 5 is 13,312 and 10 is 17,408, and the codes from -8,192 to 8,192 count 4096ths; from 8,192 to 12,288 they go on by 2048ths.
+#![tactic(auto)]
 
 #[cfg(test)]
 mod tests {

@@ -1,4 +1,5 @@
 //! Reads the input and prints what the library says of it.
+#![tactic(auto)]
 use program::printed;
 use std::io;
 use std::io::Read;

@@ -1,4 +1,5 @@
 //! Ranges and verdicts: the tightest range that a scale can write round the exact outcomes of an operation. One text for all scales.
+#![tactic(auto)]
 mod arithmetic;
 mod corner;
 mod entry;

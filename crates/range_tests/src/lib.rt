@@ -2,6 +2,7 @@
 //!
 //! On the ruled scale with division 10 the code c is c/10. On the sliding scale 1 is the code 4,096, 2 is 8,192, 3 is 10,240, 4 is 12,288, 5 is 13,312, 6 is 14,336, 9 is 16,896, 12 is 18,432 and 15 is 19,968,
 //! and the codes from -8,192 to 8,192 count 4096ths.
+#![tactic(auto)]
 
 #[cfg(test)]
 mod tests {

@@ -1,4 +1,5 @@
 //! Tests of the scales, on values worked out by hand.
+#![tactic(auto)]
 
 #[cfg(test)]
 mod tests {

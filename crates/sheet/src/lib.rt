@@ -1,4 +1,5 @@
 //! Sheets: lists of instructions in files, and the rules that they keep.
+#![tactic(auto)]
 pub(crate) mod cleared;
 pub(crate) mod clearing;
 mod faults;

@@ -1,4 +1,5 @@
 //! Tests of what padrun prints, on inputs and texts worked out by hand.
+#![tactic(auto)]
 
 #[cfg(test)]
 mod tests {

@@ -1,4 +1,5 @@
 //! Tests of filing and clearing, on sheets written by hand.
+#![tactic(auto)]
 
 #[cfg(test)]
 mod tests {
