@@ -1,5 +1,6 @@
 //! A value that a proof takes as one piece. An enum, as `Option` or `Result`, cannot hold a struct that has both a reference and an invariant; it can hold a `Kept` of one.
 #![tactic(auto)]
+
 ghost use Rattle.std.specs.Prelude.{◌≡◌};
 ghost use Rattle.std.specs.Borrow.{ftrue};
 ghost use denote.Sharing.{nothing};

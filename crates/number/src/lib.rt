@@ -1,5 +1,6 @@
 //! Numbers as fractions of two whole numbers, exactly. The mathematics is in `specs/` and `proofs/`; here is the type in which fractions are written.
 #![tactic(auto)]
+
 ghost use Rattle.std.specs.Prelude.{◌≡◌, pos, ◌*ℤ◌, is_some};
 ghost use Rattle.number.specs.Fraction.{value, higher};
 

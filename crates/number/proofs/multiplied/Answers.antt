@@ -4,8 +4,8 @@ use Rattle.std.proofs.lemmas.Int.{to_z-of_z, to_z_pos, ints}
 use Rattle.number.proofs.Written.{product_fits}
 use Rattle.number.proofs.multiplied.Goals as goal
 
-pub overflow-mul-result : goal.overflow-mul-result
-overflow-mul-result c =
+pub overflow_mul-result : goal.overflow_mul-result
+overflow_mul-result c =
     let g = c.ranges.p in
     let g' : SFits w64 c.args.p = omega (arith, ints) in
     let small : c.args.q < 2 ^ hbits w64 = omega arith in

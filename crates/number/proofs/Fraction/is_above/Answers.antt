@@ -5,11 +5,11 @@ use Rattle.number.specs.Fraction.{value}
 use Rattle.number.proofs.Written.{higher_is, none_lower, none_higher}
 use Rattle.number.proofs.Fraction.is_above.Goals as goal
 
-pub returns-then-not-has-value : goal.returns-then-not-has-value
-returns-then-not-has-value c = let e : is_some (value c.args.self) ≡ false = search rules in sym (none_lower (value c.args.self) e (value c.args.other))
+pub returns-then-not-has_value : goal.returns-then-not-has_value
+returns-then-not-has_value c = let e : is_some (value c.args.self) ≡ false = search rules in sym (none_lower (value c.args.self) e (value c.args.other))
 
-pub returns-then-not-has-value-2 : goal.returns-then-not-has-value-2
-returns-then-not-has-value-2 c = let e : is_some (value c.args.other) ≡ false = search rules in sym (none_higher (value c.args.self) (value c.args.other) e)
+pub returns-then-not-has_value-2 : goal.returns-then-not-has_value-2
+returns-then-not-has_value-2 c = let e : is_some (value c.args.other) ≡ false = search rules in sym (none_higher (value c.args.self) (value c.args.other) e)
 
 pub returns : goal.returns
 returns c =
@@ -17,8 +17,8 @@ returns c =
     let g = c.args.other in
     let ff : SFits w32 f.p = search rules in
     let fg : SFits w32 g.p = search rules in
-    let fl : SFits w64 c.multiplied.result = record { sfits = c.multiplied.type-inv } in
-    let fr : SFits w64 c.multiplied-2.result = record { sfits = c.multiplied-2.type-inv } in
+    let fl : SFits w64 c.multiplied.result = record { sfits = c.multiplied.type_inv } in
+    let fr : SFits w64 c.multiplied-2.result = record { sfits = c.multiplied-2.type_inv } in
     let l = simp to_z-of_z at c.multiplied.ensures in
     let r = simp to_z-of_z at c.multiplied-2.ensures in
     let u : is_some (value f) ≡ true = search rules in
