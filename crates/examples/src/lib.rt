@@ -43,7 +43,7 @@ pub enum Claim {
 
 // What the operation comes to.
 fn comes_to<S: ArithmeticScale>(scale: &S, operation: Operation, x: Range, y: Range) -> Range
-    ensures { Binary (S.OrderedScale.place scale.now) (outcomes operation) x y result }
+    ensures { Binary (S.place scale.now) (outcomes operation) x y result }
 {
     match operation {
         Operation::Added => sum(scale, x, y),
@@ -57,7 +57,7 @@ fn comes_to<S: ArithmeticScale>(scale: &S, operation: Operation, x: Range, y: Ra
 
 // What the comparison comes to.
 fn judged<S: OrderedScale>(scale: &S, comparison: Comparison, x: Range, y: Range) -> Verdict
-    ensures { Exactly (Comparisons (compared comparison) (Holds (place scale.now) x) (Holds (place scale.now) y)) result }
+    ensures { Exactly (Comparisons (compared comparison) (Holds (S.place scale.now) x) (Holds (S.place scale.now) y)) result }
 {
     match comparison {
         Comparison::Less => less(scale, x, y),
@@ -67,7 +67,7 @@ fn judged<S: OrderedScale>(scale: &S, comparison: Comparison, x: Range, y: Range
 
 /// Whether the claim holds on the scale, which is whether the library's own functions come to its result.
 pub fn agrees<S: ArithmeticScale>(scale: &S, claim: Claim) -> bool
-    ensures { Decides result (Claims (S.OrderedScale.place scale.now) claim) }
+    ensures { Decides result (Claims (S.place scale.now) claim) }
 {
     match claim {
         Claim::Enters(entry, range) => entry.hull(scale) == range,

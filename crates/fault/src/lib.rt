@@ -1,5 +1,6 @@
 //! What every refusal tells, whichever layer refuses.
 #![tactic(auto)]
+
 ghost use Rattle.std.specs.Prelude.{◌≡◌};
 ghost use Rattle.fault.specs.Layers.{layer_name};
 ghost use Rattle.fault.specs.Told.{refused};

@@ -1,7 +1,7 @@
 -- The value of a written fraction. Assumes nothing.
 --     value_some      a fraction with a value is p / q
 --     higher_is       which of two is the higher, by cross multiplication
-use Rattle.std.proofs.Common.{◌≡◌, ℕ, zero, suc, ◌+◌, ◌-◌, ◌*◌, ◌^◌, ◌<◌, ◌≤◌, Bool, true, false, cond, T, ltb, ℤ, pos, negsuc, ◌*ℤ◌, is_some, Some, None, Option, sym, refl, ap, subst, mul-le-mul, arith, w32, w64, SFits, ltb-true}
+use Rattle.std.proofs.Common.{◌≡◌, ℕ, zero, suc, ◌-◌, ◌^◌, ◌<◌, ◌≤◌, Bool, true, false, cond, T, ltb, ℤ, pos, negsuc, ◌*ℤ◌, is_some, Some, None, Option, sym, refl, ap, subst, mul-le-mul, arith, w32, w64, SFits, ltb-true}
 use lib.Signed.{lt_z}
 use borrow.Author.Differences.{ints}
 use Rattle.number.specs.declared.Fraction.{Fraction}

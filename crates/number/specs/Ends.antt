@@ -4,7 +4,7 @@
 --     Corners          a place is not above any of the four products of ends         Corners⁺       none of them is above it
 --     recip⁺ recip⁻    one over an end, among the positive numbers, and among the negative ones
 use Rattle.std.specs.Prelude.{ℕ, zero, suc, ℤ, pos, negsuc}
-use Rattle.number.specs.Number.{Number, plus, times, nought, reciprocal_of}
+use Rattle.number.specs.Number.{plus, times, nought, reciprocal_of}
 use Rattle.number.specs.Place.{Place, −∞, at, +∞, ◌⊑◌, opp}
 
 -- opposite infinities never meet here

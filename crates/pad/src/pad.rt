@@ -27,7 +27,7 @@ impl<S: ArithmeticScale> Pad<S> {
     pub fn new(scale: S) -> Pad<S>
         ensures scale { scale_of result ≡ scale }
         ensures board { board_of result ≡ fresh }
-        ensures promises { Promises (S.OrderedScale.place scale) }
+        ensures promises { Promises (S.place scale) }
     {
         Pad {
             scale,
@@ -37,7 +37,7 @@ impl<S: ArithmeticScale> Pad<S> {
 
     /// Enters into the line: it becomes the hull of the numbers within the bounds.
     pub fn enter(&mut self, line: u8, entry: Entry) -> Result<(), PadFault>
-        ensures does { Does (S.OrderedScale.place (scale_of self.old)) (enter line entry) (board_of self.old) (answer (λ _. done) result) (board_of self.new) }
+        ensures does { Does (S.place (scale_of self.old)) (enter line entry) (board_of self.old) (answer (λ _. done) result) (board_of self.new) }
         ensures scale { scale_of self.new ≡ scale_of self.old }
     {
         admit(line, entry)?;
@@ -52,7 +52,7 @@ impl<S: ArithmeticScale> Pad<S> {
         ranges: &mut [Range],
         verdicts: &mut [Verdict],
     ) -> Result<(), PadFault>
-        ensures does { Does (S.OrderedScale.place (scale_of self.old)) (work sheet.now (length ranges.old) (length verdicts.old)) (board_of self.old) (answer (λ _. done) result) (board_of self.new) }
+        ensures does { Does (S.place (scale_of self.old)) (work sheet.now (length ranges.old) (length verdicts.old)) (board_of self.old) (answer (λ _. done) result) (board_of self.new) }
         ensures slots { Left result ranges.old verdicts.old ranges.new verdicts.new }
         ensures scale { scale_of self.new ≡ scale_of self.old }
     {
@@ -73,7 +73,7 @@ impl<S: ArithmeticScale> Pad<S> {
 
     /// The codes of the line, or nothing where it is blank.
     pub fn show_line(&self, line: u8) -> Result<Option<Range>, PadFault>
-        ensures { Does (S.OrderedScale.place (scale_of self.now)) (show_line line) (board_of self.now) (answer line_shown result) (board_of self.now) }
+        ensures { Does (S.place (scale_of self.now)) (show_line line) (board_of self.now) (answer line_shown result) (board_of self.now) }
     {
         if line > LAST {
             return Err(PadFault::NoLine(line));
@@ -90,7 +90,7 @@ impl<S: ArithmeticScale> Pad<S> {
 
     /// The verdict of the flag.
     pub fn show_flag(&self, flag: u8) -> Result<Verdict, PadFault>
-        ensures { Does (S.OrderedScale.place (scale_of self.now)) (show_flag flag) (board_of self.now) (answer flag_shown result) (board_of self.now) }
+        ensures { Does (S.place (scale_of self.now)) (show_flag flag) (board_of self.now) (answer flag_shown result) (board_of self.now) }
     {
         if flag > LAST {
             return Err(PadFault::NoFlag(flag));
@@ -103,7 +103,7 @@ impl<S: ArithmeticScale> Pad<S> {
 
     /// Unsets every line and flag.
     pub fn wipe(&mut self)
-        ensures does { Does (S.OrderedScale.place (scale_of self.old)) wipe (board_of self.old) done (board_of self.new) }
+        ensures does { Does (S.place (scale_of self.old)) wipe (board_of self.old) done (board_of self.new) }
         ensures scale { scale_of self.new ≡ scale_of self.old }
     {
         self.board = Board::new();

@@ -32,7 +32,7 @@ fn step<S: ArithmeticScale>(
     requires ranges { AllowsMove (shape (operation instruction)).ranges (length (held ranges.old)) (room ranges.old) }
     requires verdicts { AllowsMove (shape (operation instruction)).verdicts (length (held verdicts.old)) (room verdicts.old) }
     requires cell { NamesCell instruction board.old }
-    ensures step { Step (tightest (S.OrderedScale.place scale.now)) instruction (state (held ranges.old) (held verdicts.old) board.old) (state (held ranges.new) (held verdicts.new) board.new) }
+    ensures step { Step (tightest (S.place scale.now)) instruction (state (held ranges.old) (held verdicts.old) board.old) (state (held ranges.new) (held verdicts.new) board.new) }
     ensures rooms { (room ranges.new ≡ room ranges.old) × (room verdicts.new ≡ room verdicts.old) }
     ensures owners { (owner ranges.new ≡ owner ranges.old) × (owner verdicts.new ≡ owner verdicts.old) }
 {
@@ -177,7 +177,7 @@ pub(crate) fn work_through<S: ArithmeticScale>(
     requires empty { (held ranges.old ≡ []) × (held verdicts.old ≡ []) }
     requires whole { length board.old.lines.cells ≡ 32 }
     requires provided { work_refusal (instructions_of sheet.now) (lines_set board.old) (room ranges.old) (room verdicts.old) ≡ None }
-    ensures works { Works (tightest (S.OrderedScale.place scale.now)) (instructions_of sheet.now) board.old board.new }
+    ensures works { Works (tightest (S.place scale.now)) (instructions_of sheet.now) board.old board.new }
     ensures rooms { (room ranges.new ≡ room ranges.old) × (room verdicts.new ≡ room verdicts.old) }
     ensures owners { (owner ranges.new ≡ owner ranges.old) × (owner verdicts.new ≡ owner verdicts.old) }
 {

@@ -17,7 +17,7 @@ fn number_text(heap: Global, code: i64) -> Result<String, AllocError>
 
 // A code, or an infinity where its place is infinite.
 fn code_text<S: OrderedScale>(heap: Global, scale: &S, code: i64) -> Result<String, AllocError>
-    ensures { IfOk result (λ t. string_bytes t ≡ code_text (place scale.now code) code) }
+    ensures { IfOk result (λ t. string_bytes t ≡ code_text (S.place scale.now code) code) }
 {
     if code <= scale.lowest() {
         String::from_str(heap, "-inf")
@@ -37,7 +37,7 @@ fn pair_text(heap: Global, lower: &str, upper: &str) -> Result<String, AllocErro
 
 // The two ends, or that there are none.
 fn range_text<S: OrderedScale>(heap: Global, scale: &S, range: Range) -> Result<String, AllocError>
-    ensures { IfOk result (λ t. string_bytes t ≡ range_text (place scale.now) range) }
+    ensures { IfOk result (λ t. string_bytes t ≡ range_text (S.place scale.now) range) }
 {
     if range.upper < range.lower {
         return String::from_str(heap, "blank");
@@ -54,7 +54,7 @@ pub(crate) fn line_text<S: OrderedScale>(
     line: u8,
     range: Range,
 ) -> Result<String, AllocError>
-    ensures { IfOk result (λ t. string_bytes t ≡ line_text (place scale.now) line range) }
+    ensures { IfOk result (λ t. string_bytes t ≡ line_text (S.place scale.now) line range) }
 {
     let ends = range_text(heap, scale, range)?;
     let ends = ends.as_str();

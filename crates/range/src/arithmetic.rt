@@ -16,7 +16,7 @@ use scale::{ArithmeticScale, OrderedScale, Rounding};
 
 /// The value of a fraction; blank where it has none.
 pub fn constant<S: ArithmeticScale>(scale: &S, f: Fraction) -> Range
-    ensures { Hull (S.OrderedScale.place scale.now) (Constant f) result }
+    ensures { Hull (S.place scale.now) (Constant f) result }
 {
     if !f.has_value() {
         return Range::blank();
@@ -29,7 +29,7 @@ pub fn constant<S: ArithmeticScale>(scale: &S, f: Fraction) -> Range
 
 /// -y, which is 0 - y.
 pub fn negation<S: ArithmeticScale>(scale: &S, y: Range) -> Range
-    ensures { Unary (S.OrderedScale.place scale.now) Negations y result }
+    ensures { Unary (S.place scale.now) Negations y result }
 {
     let zero = scale.zero();
     difference(scale, Range::new(zero, zero), y)
@@ -37,15 +37,15 @@ pub fn negation<S: ArithmeticScale>(scale: &S, y: Range) -> Range
 
 // Whether a range is blank, so that nothing comes of the two.
 fn any_blank<S: OrderedScale>(scale: &S, x: Range, y: Range) -> bool
-    ensures empty { result ≡ true → (u v : Number) → Holds (place scale.now) x u → Holds (place scale.now) y v → ⊥ }
-    ensures some { result ≡ false → Inhabited (Holds (place scale.now) x) × Inhabited (Holds (place scale.now) y) }
+    ensures empty { result ≡ true → (u v : Number) → Holds (S.place scale.now) x u → Holds (S.place scale.now) y v → ⊥ }
+    ensures some { result ≡ false → Inhabited (Holds (S.place scale.now) x) × Inhabited (Holds (S.place scale.now) y) }
 {
     x.is_blank(scale) || y.is_blank(scale)
 }
 
 /// x + y.
 pub fn sum<S: ArithmeticScale>(scale: &S, x: Range, y: Range) -> Range
-    ensures { Binary (S.OrderedScale.place scale.now) Sums x y result }
+    ensures { Binary (S.place scale.now) Sums x y result }
 {
     if any_blank(scale, x, y) {
         return Range::blank();
@@ -58,7 +58,7 @@ pub fn sum<S: ArithmeticScale>(scale: &S, x: Range, y: Range) -> Range
 
 /// x - y.
 pub fn difference<S: ArithmeticScale>(scale: &S, x: Range, y: Range) -> Range
-    ensures { Binary (S.OrderedScale.place scale.now) Differences x y result }
+    ensures { Binary (S.place scale.now) Differences x y result }
 {
     if any_blank(scale, x, y) {
         return Range::blank();
@@ -71,7 +71,7 @@ pub fn difference<S: ArithmeticScale>(scale: &S, x: Range, y: Range) -> Range
 
 // The lower end of x y, rounded down, or the upper one, rounded up.
 fn product_end<S: ArithmeticScale>(scale: &S, rounding: Rounding, x: Range, y: Range) -> i64
-    ensures { BinaryEnd (S.OrderedScale.place scale.now) rounding Products x y result }
+    ensures { BinaryEnd (S.place scale.now) rounding Products x y result }
 {
     outermost(
         rounding,
@@ -84,7 +84,7 @@ fn product_end<S: ArithmeticScale>(scale: &S, rounding: Rounding, x: Range, y: R
 
 /// x y.
 pub fn product<S: ArithmeticScale>(scale: &S, x: Range, y: Range) -> Range
-    ensures { Binary (S.OrderedScale.place scale.now) Products x y result }
+    ensures { Binary (S.place scale.now) Products x y result }
 {
     if any_blank(scale, x, y) {
         return Range::blank();
@@ -97,15 +97,15 @@ pub fn product<S: ArithmeticScale>(scale: &S, x: Range, y: Range) -> Range
 
 /// y squared, as y times y: the two factors are chosen apart.
 pub fn square<S: ArithmeticScale>(scale: &S, y: Range) -> Range
-    ensures { Unary (S.OrderedScale.place scale.now) Squares y result }
+    ensures { Unary (S.place scale.now) Squares y result }
 {
     product(scale, y, y)
 }
 
 // Whether y has a number on the side of 0.
 fn reaches<S: OrderedScale>(scale: &S, side: Side, y: Range) -> bool
-    ensures some { result ≡ true → Inhabited (part side (Holds (place scale.now) y)) }
-    ensures empty { result ≡ false → (z : Number) → part side (Holds (place scale.now) y) z → ⊥ }
+    ensures some { result ≡ true → Inhabited (part side (Holds (S.place scale.now) y)) }
+    ensures empty { result ≡ false → (z : Number) → part side (Holds (S.place scale.now) y) z → ⊥ }
 {
     if y.is_blank(scale) {
         return false;
@@ -124,7 +124,7 @@ fn quotient_end<S: ArithmeticScale>(
     x: Range,
     y: Range,
 ) -> i64
-    ensures { BinaryEnd (S.OrderedScale.place scale.now) rounding (QuotientsOn side) x y result }
+    ensures { BinaryEnd (S.place scale.now) rounding (QuotientsOn side) x y result }
 {
     outermost(
         rounding,
@@ -137,7 +137,7 @@ fn quotient_end<S: ArithmeticScale>(
 
 // x / y for y on one side of 0.
 fn quotient_on<S: ArithmeticScale>(scale: &S, side: Side, x: Range, y: Range) -> Range
-    ensures { Binary (S.OrderedScale.place scale.now) (QuotientsOn side) x y result }
+    ensures { Binary (S.place scale.now) (QuotientsOn side) x y result }
 {
     if x.is_blank(scale) || !reaches(scale, side, y) {
         return Range::blank();
@@ -150,22 +150,22 @@ fn quotient_on<S: ArithmeticScale>(scale: &S, side: Side, x: Range, y: Range) ->
 
 /// x / y for y < 0.
 pub fn quotient_negative<S: ArithmeticScale>(scale: &S, x: Range, y: Range) -> Range
-    ensures { Binary (S.OrderedScale.place scale.now) Quotients⁻ x y result }
+    ensures { Binary (S.place scale.now) Quotients⁻ x y result }
 {
     quotient_on(scale, Side::Below, x, y)
 }
 
 /// x / y for y > 0.
 pub fn quotient_positive<S: ArithmeticScale>(scale: &S, x: Range, y: Range) -> Range
-    ensures { Binary (S.OrderedScale.place scale.now) Quotients⁺ x y result }
+    ensures { Binary (S.place scale.now) Quotients⁺ x y result }
 {
     quotient_on(scale, Side::Above, x, y)
 }
 
 /// x / y for y < 0, and for y > 0.
 pub fn parted<S: ArithmeticScale>(scale: &S, x: Range, y: Range) -> (Range, Range)
-    ensures negative { Binary (S.OrderedScale.place scale.now) Quotients⁻ x y result.0 }
-    ensures positive { Binary (S.OrderedScale.place scale.now) Quotients⁺ x y result.1 }
+    ensures negative { Binary (S.place scale.now) Quotients⁻ x y result.0 }
+    ensures positive { Binary (S.place scale.now) Quotients⁺ x y result.1 }
 {
     (
         quotient_negative(scale, x, y),
@@ -175,7 +175,7 @@ pub fn parted<S: ArithmeticScale>(scale: &S, x: Range, y: Range) -> (Range, Rang
 
 /// x / y for y ≠ 0.
 pub fn quotient<S: ArithmeticScale>(scale: &S, x: Range, y: Range) -> Range
-    ensures { Binary (S.OrderedScale.place scale.now) Quotients x y result }
+    ensures { Binary (S.place scale.now) Quotients x y result }
 {
     let (negative, positive) = parted(scale, x, y);
     join(scale, negative, positive)

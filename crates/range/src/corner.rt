@@ -47,8 +47,8 @@ impl Side {
 
     // Whether the code's place is on this side of 0.
     pub(crate) fn has<S: OrderedScale>(self, scale: &S, code: i64) -> bool
-        ensures yes { result ≡ true → Facing self (place scale.now code) }
-        ensures not { result ≡ false → Facing self (place scale.now code) → ⊥ }
+        ensures yes { result ≡ true → Facing self (S.place scale.now code) }
+        ensures not { result ≡ false → Facing self (S.place scale.now code) → ⊥ }
     {
         match self {
             Side::Below => code < scale.zero(),
@@ -59,7 +59,7 @@ impl Side {
 
 // The sign of the code's place.
 fn sign_of<S: OrderedScale>(scale: &S, code: i64) -> Sign
-    ensures { result ≡ sign_of_place (place scale.now code) }
+    ensures { result ≡ sign_of_place (S.place scale.now code) }
 {
     if Side::Below.has(scale, code) {
         Sign::Negative
@@ -72,15 +72,15 @@ fn sign_of<S: OrderedScale>(scale: &S, code: i64) -> Sign
 
 // Whether the code's place is a number.
 fn is_number<S: OrderedScale>(scale: &S, code: i64) -> bool
-    ensures yes { result ≡ true → (x : Number) × (place scale.now code ≡ at x) }
-    ensures not { result ≡ false → (x : Number) → place scale.now code ≢ at x }
+    ensures yes { result ≡ true → (x : Number) × (S.place scale.now code ≡ at x) }
+    ensures not { result ≡ false → (x : Number) → S.place scale.now code ≢ at x }
 {
     scale.lowest() < code && code < scale.highest()
 }
 
 // A corner at an infinity or at 0. No code is above plus infinity, so that rounded down it is the last code of all; and so for minus infinity.
 fn end<S: OrderedScale>(scale: &S, rounding: Rounding, sign: Sign) -> i64
-    ensures { Corner (place scale.now) rounding (utmost sign) result }
+    ensures { Corner (S.place scale.now) rounding (utmost sign) result }
 {
     match (rounding, sign) {
         (_, Sign::Zero) => scale.zero(),
@@ -98,7 +98,7 @@ pub(crate) fn product_corner<S: ArithmeticScale>(
     a: i64,
     b: i64,
 ) -> i64
-    ensures { Corner (S.OrderedScale.place scale.now) rounding (S.OrderedScale.place scale.now a ⊙ S.OrderedScale.place scale.now b) result }
+    ensures { Corner (S.place scale.now) rounding (S.place scale.now a ⊙ S.place scale.now b) result }
 {
     if is_number(scale, a) && is_number(scale, b) {
         scale.product(rounding, a, b)
@@ -116,7 +116,7 @@ pub(crate) fn quotient_corner<S: ArithmeticScale>(
     a: i64,
     b: i64,
 ) -> i64
-    ensures { Corner (S.OrderedScale.place scale.now) rounding (S.OrderedScale.place scale.now a ⊙ recip side (S.OrderedScale.place scale.now b)) result }
+    ensures { Corner (S.place scale.now) rounding (S.place scale.now a ⊙ recip side (S.place scale.now b)) result }
 {
     if side.has(scale, b) {
         if !is_number(scale, b) {

@@ -48,7 +48,7 @@ fn admits(lower: Option<Fraction>, upper: Option<Fraction>) -> bool
 
 // The code of a lower bound, rounded below; an absent one is unbounded.
 fn lower_code<S: ArithmeticScale>(scale: &S, bound: Option<Fraction>) -> i64
-    ensures { Rounded (S.OrderedScale.place scale.now) Down (bound_value bound) result }
+    ensures { Rounded (S.place scale.now) Down (bound_value bound) result }
 {
     match bound {
         Some(f) => scale.fraction(Rounding::Down, f),
@@ -58,7 +58,7 @@ fn lower_code<S: ArithmeticScale>(scale: &S, bound: Option<Fraction>) -> i64
 
 // The code of an upper bound, rounded above; an absent one is unbounded.
 fn upper_code<S: ArithmeticScale>(scale: &S, bound: Option<Fraction>) -> i64
-    ensures { Rounded (S.OrderedScale.place scale.now) Up (bound_value bound) result }
+    ensures { Rounded (S.place scale.now) Up (bound_value bound) result }
 {
     match bound {
         Some(f) => scale.fraction(Rounding::Up, f),
@@ -69,7 +69,7 @@ fn upper_code<S: ArithmeticScale>(scale: &S, bound: Option<Fraction>) -> i64
 impl Entry {
     /// The hull of the numbers within the bounds.
     pub fn hull<S: ArithmeticScale>(self, scale: &S) -> Range
-        ensures { Hull (S.OrderedScale.place scale.now) (Admitted self) result }
+        ensures { Hull (S.place scale.now) (Admitted self) result }
     {
         match self {
             Entry::Blank => Range::blank(),

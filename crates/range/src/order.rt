@@ -11,7 +11,7 @@ use scale::OrderedScale;
 
 /// The numbers in either range.
 pub fn join<S: OrderedScale>(scale: &S, x: Range, y: Range) -> Range
-    ensures { Hull (place scale.now) (Either (Holds (place scale.now) x) (Holds (place scale.now) y)) result }
+    ensures { Hull (S.place scale.now) (Either (Holds (S.place scale.now) x) (Holds (S.place scale.now) y)) result }
 {
     if x.is_blank(scale) {
         return y.copy(scale);
@@ -24,14 +24,14 @@ pub fn join<S: OrderedScale>(scale: &S, x: Range, y: Range) -> Range
 
 /// The numbers in both ranges.
 pub fn meet<S: OrderedScale>(scale: &S, x: Range, y: Range) -> Range
-    ensures { Hull (place scale.now) (Both (Holds (place scale.now) x) (Holds (place scale.now) y)) result }
+    ensures { Hull (S.place scale.now) (Both (Holds (S.place scale.now) x) (Holds (S.place scale.now) y)) result }
 {
     Range::new(x.lower.max(y.lower), x.upper.min(y.upper)).copy(scale)
 }
 
 /// The lesser of a number of each range.
 pub fn lesser<S: OrderedScale>(scale: &S, x: Range, y: Range) -> Range
-    ensures { Hull (place scale.now) (Lesser (Holds (place scale.now) x) (Holds (place scale.now) y)) result }
+    ensures { Hull (S.place scale.now) (Lesser (Holds (S.place scale.now) x) (Holds (S.place scale.now) y)) result }
 {
     if x.is_blank(scale) {
         return Range::blank();
@@ -44,7 +44,7 @@ pub fn lesser<S: OrderedScale>(scale: &S, x: Range, y: Range) -> Range
 
 /// The greater of a number of each range.
 pub fn greater<S: OrderedScale>(scale: &S, x: Range, y: Range) -> Range
-    ensures { Hull (place scale.now) (Greater (Holds (place scale.now) x) (Holds (place scale.now) y)) result }
+    ensures { Hull (S.place scale.now) (Greater (Holds (S.place scale.now) x) (Holds (S.place scale.now) y)) result }
 {
     if x.is_blank(scale) {
         return Range::blank();
@@ -57,7 +57,7 @@ pub fn greater<S: OrderedScale>(scale: &S, x: Range, y: Range) -> Range
 
 /// Whether x < y.
 pub fn less<S: OrderedScale>(scale: &S, x: Range, y: Range) -> Verdict
-    ensures { Exactly (Comparisons Less (Holds (place scale.now) x) (Holds (place scale.now) y)) result }
+    ensures { Exactly (Comparisons Less (Holds (S.place scale.now) x) (Holds (S.place scale.now) y)) result }
 {
     if x.is_blank(scale) {
         return Verdict::Void;
@@ -70,7 +70,7 @@ pub fn less<S: OrderedScale>(scale: &S, x: Range, y: Range) -> Verdict
 
 /// Whether x ≤ y.
 pub fn at_most<S: OrderedScale>(scale: &S, x: Range, y: Range) -> Verdict
-    ensures { Exactly (Comparisons IsAtMost (Holds (place scale.now) x) (Holds (place scale.now) y)) result }
+    ensures { Exactly (Comparisons IsAtMost (Holds (S.place scale.now) x) (Holds (S.place scale.now) y)) result }
 {
     if x.is_blank(scale) {
         return Verdict::Void;
@@ -97,7 +97,7 @@ fn spread(x: Range, y: Range) -> bool
 
 /// Whether x = y.
 pub fn equal<S: OrderedScale>(scale: &S, x: Range, y: Range) -> Verdict
-    ensures { Exactly (Comparisons Equal (Holds (place scale.now) x) (Holds (place scale.now) y)) result }
+    ensures { Exactly (Comparisons Equal (Holds (S.place scale.now) x) (Holds (S.place scale.now) y)) result }
 {
     if x.is_blank(scale) {
         return Verdict::Void;
@@ -110,7 +110,7 @@ pub fn equal<S: OrderedScale>(scale: &S, x: Range, y: Range) -> Verdict
 
 /// The numbers of x if the verdict allows true, with those of y if it allows false.
 pub fn pick<S: OrderedScale>(scale: &S, verdict: Verdict, x: Range, y: Range) -> Range
-    ensures { Hull (place scale.now) (Picked (Allows verdict) (Holds (place scale.now) x) (Holds (place scale.now) y)) result }
+    ensures { Hull (S.place scale.now) (Picked (Allows verdict) (Holds (S.place scale.now) x) (Holds (S.place scale.now) y)) result }
 {
     match verdict {
         Verdict::Certain => x.copy(scale),

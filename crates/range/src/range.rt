@@ -37,8 +37,8 @@ impl Range {
 
     /// Whether the range holds no number on the scale.
     pub fn is_blank<S: OrderedScale>(self, scale: &S) -> bool
-        ensures empty { result ≡ true → (x : Number) → Holds (place scale.now) self x → ⊥ }
-        ensures some { result ≡ false → Inhabited (Holds (place scale.now) self) }
+        ensures empty { result ≡ true → (x : Number) → Holds (S.place scale.now) self x → ⊥ }
+        ensures some { result ≡ false → Inhabited (Holds (S.place scale.now) self) }
     {
         if scale.highest() <= self.lower {
             return true;
@@ -51,9 +51,9 @@ impl Range {
 
     /// The tightest range round what the range holds: the hull of its numbers.
     pub fn copy<S: OrderedScale>(self, scale: &S) -> Range
-        ensures hull { Hull (place scale.now) (Holds (place scale.now) self) result }
-        ensures alone { (q : Range) → Hull (place scale.now) (Holds (place scale.now) self) q → q ≡ result }
-        ensures again { (p : ℤ → Place) (x : Range) → Hull (place scale.now) (Holds p x) self → result ≡ self }
+        ensures hull { Hull (S.place scale.now) (Holds (S.place scale.now) self) result }
+        ensures alone { (q : Range) → Hull (S.place scale.now) (Holds (S.place scale.now) self) q → q ≡ result }
+        ensures again { (p : ℤ → Place) (x : Range) → Hull (S.place scale.now) (Holds p x) self → result ≡ self }
     {
         if self.is_blank(scale) {
             return Range::blank();

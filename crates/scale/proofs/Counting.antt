@@ -1,14 +1,13 @@
 -- The exact results of two counts of marks, and of a written fraction. Assumes nothing.
-use Rattle.std.proofs.Common.{◌≡◌, ℕ, zero, suc, ◌*◌, ◌<◌, ◌≤◌, Bool, true, ℤ, pos, negsuc, ◌+ℤ◌, ◌-ℤ◌, ◌*ℤ◌, neg_ℤ, is_some, Some, None, Option, sym, refl, ap, ◌∙◌, subst, mul_comm, mul-pos, arith}
-use borrow.Author.Differences.{ints}
+use Rattle.std.proofs.Common.{◌≡◌, ℕ, zero, suc, ◌*◌, ◌<◌, true, ℤ, pos, negsuc, ◌+ℤ◌, ◌-ℤ◌, ◌*ℤ◌, neg_ℤ, is_some, Some, None, Option, sym, refl, subst, mul_comm, mul-pos, arith}
 use Rattle.number.specs.declared.Fraction.{Fraction}
 use Rattle.number.specs.Number.{Number, plus, minus, times, over}
-use Rattle.number.specs.Place.{Place, −∞, at, +∞}
+use Rattle.number.specs.Place.{at}
 use Rattle.number.specs.Fraction.{value}
-use Rattle.number.proofs.Ring.{Ex, #◌, ◌⁺, ◌⊕◌, ◌⊗◌, ◌⊛◌, ⊖◌, ring}
+use Rattle.number.proofs.Ring.{#◌, ◌⁺, ◌⊕◌, ◌⊗◌, ◌⊛◌, ⊖◌, ring}
 use Rattle.number.proofs.Written.{value_some}
 use Rattle.scale.specs.declared.rounding.Rounding.{Rounding}
-use Rattle.scale.specs.Rounded.{of_two, sum_of, difference_of, product_of, divided, quotient_of, Rounded, Sum, Difference, Product, Quotient, Written}
+use Rattle.scale.specs.Rounded.{of_two, divided, Rounded, Sum, Difference, Product, Quotient, Written}
 use Rattle.scale.specs.Quotient.{Whole, Signed}
 use Rattle.scale.specs.Marked.{Marks, counted, marked}
 use Rattle.scale.specs.Wholes.{exact, scaled}

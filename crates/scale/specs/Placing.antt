@@ -4,11 +4,11 @@
 --     ordered  told          the laws of a scale
 --     floor_at  ceiling_at   the code of a count, from a code that tells which codes count no more, or no less
 --     rounded_count          a number rounds as its count does
-use Rattle.std.specs.Prelude.{◌≡◌, ℕ, ◌+◌, ◌*◌, ◌<◌, ◌≤◌, Bool, true, false, cond, ◌↔◌, ℤ, pos, negsuc, ◌+ℤ◌, ◌-ℤ◌, ◌*ℤ◌, neg_ℤ, ◌≤ℤ◌, ◌<ℤ◌, Some, None, Option, ◌≢◌, int_lt, refl}
-use Rattle.std.proofs.Common.{sym, ap, subst, ◌∙◌, arith}
+use Rattle.std.specs.Prelude.{◌≡◌, ℕ, Bool, true, false, cond, ◌↔◌, ℤ, pos, ◌+ℤ◌, ◌-ℤ◌, ◌*ℤ◌, ◌≤ℤ◌, ◌<ℤ◌, Some, ◌≢◌, int_lt, refl}
+use Rattle.std.proofs.Common.{sym, subst, arith}
 use Rattle.std.specs.Int.{int_max, int_min}
 use Rattle.std.proofs.lemmas.Int.{clamps, by_lt_z, ints}
-use Rattle.number.specs.Number.{Number, ◌≼◌, ◌≃◌, nought}
+use Rattle.number.specs.Number.{Number, ◌≃◌}
 use Rattle.number.specs.Place.{Place, −∞, at, +∞, ◌⊑◌}
 use Rattle.number.proofs.Ring.{≤ℤ_times}
 use Rattle.number.proofs.Places.{−∞_least, +∞_greatest, at_⊑, ⊑_at}
@@ -17,7 +17,7 @@ use Rattle.scale.specs.declared.rounding.Rounding.TheVariants.{Down, Up}
 use Rattle.scale.specs.Scale.{Code, Floor, Ceiling, Zero, Ordered, Told}
 use Rattle.scale.specs.Rounded.{Rounded}
 use Rattle.scale.specs.Quotient.{Whole}
-use Rattle.scale.specs.Marked.{Marks, counted, marked, Counted}
+use Rattle.scale.specs.Marked.{Marks, counted, marked}
 use Rattle.scale.specs.Wholes.{times_back, whole_down, whole_up}
 
 -- ---- places that differ

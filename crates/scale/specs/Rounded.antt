@@ -8,7 +8,7 @@ use Rattle.number.specs.Place.{Place, −∞, at, +∞}
 use Rattle.number.specs.Fraction.{value}
 use Rattle.scale.specs.declared.rounding.Rounding.{Rounding}
 use Rattle.scale.specs.declared.rounding.Rounding.TheVariants.{Down, Up}
-use Rattle.scale.specs.Scale.{Places, Floor, Ceiling}
+use Rattle.scale.specs.Scale.{Floor, Ceiling}
 
 -- two infinite operands, or one, have no exact number
 abbrev pub of_two : (Number → Number → Option Number) → Place → Place → Option Number

@@ -1,5 +1,5 @@
 -- The ruled scale's marks rise. Assumes nothing.
-use Rattle.std.specs.Prelude.{ℕ, ◌*◌, ◌<◌, ◌≤◌, ℤ, pos, refl}
+use Rattle.std.specs.Prelude.{pos, refl}
 use Rattle.std.proofs.Common.{arith}
 use Rattle.std.proofs.lemmas.Int.{ints}
 use Rattle.scale.specs.declared.ruled.RuledScale.{RuledScale}

@@ -10,7 +10,7 @@ use Rattle.std.proofs.lemmas.Int.{clamps, ints}
 use Rattle.number.specs.Place.{Place, at, ◌⊑◌}
 use Rattle.number.proofs.Places.{−∞_least, +∞_greatest}
 use Rattle.scale.specs.Scale.{Floor, Ceiling}
-use Rattle.scale.specs.Marked.{counted, marked}
+use Rattle.scale.specs.Marked.{counted}
 use Rattle.scale.specs.Sliding.{steps, mirrored, sliding_marks, sliding}
 use Rattle.scale.specs.Placing.{Rising, floor_at, by_place, is_number, is_low, is_high, at_most_in, at_most_out}
 

@@ -2,11 +2,11 @@
 --     whole_down  whole_up      a whole number is not above n / d exactly if it is not above its floor; not below, by the ceiling
 --     scaled                    the quotient does not change with a common factor
 use Rattle.std.specs.Prelude.{◌≡◌, ℕ, suc, ◌+◌, ◌*◌, ◌^◌, ◌<◌, ◌≤◌, ◌⊎◌, ◌↔◌, ℤ, pos, negsuc, ◌+ℤ◌, ◌-ℤ◌, ◌*ℤ◌, neg_ℤ, ◌≤ℤ◌, ◌<ℤ◌, FitsSigned, unsigned_abs, refl}
-use Rattle.std.proofs.Common.{sym, ap, subst, inl, inr, ⊎_elim, arith, mul-le-mul, mul-le-mul_right, le_of_mul-le-mul_right, mul-lt-mul_of_pos_right}
-use borrow.Author.Differences.{ints, up, down, le_out, lt_out, at_most_in}
+use Rattle.std.proofs.Common.{ap, subst, inl, inr, ⊎_elim, arith, mul-le-mul, mul-le-mul_right, le_of_mul-le-mul_right, mul-lt-mul_of_pos_right}
+use borrow.Author.Differences.{ints, up, down, lt_out, at_most_in}
 use Rattle.std.specs.Int.{int_div_euclid, w64}
 use Rattle.std.proofs.lemmas.Int.{by_lt_z}
-use Rattle.number.proofs.Ring.{Ex, #◌, ◌⁺, ◌⊕◌, ◌⊗◌, ◌⊛◌, ⊖◌, ring, at_most, below, at_most_out, below_out, ≤ℤ_times}
+use Rattle.number.proofs.Ring.{#◌, ◌⁺, ◌⊕◌, ◌⊛◌, ring, ≤ℤ_times}
 use Rattle.scale.specs.declared.rounding.Rounding.{Rounding}
 use Rattle.scale.specs.declared.rounding.Rounding.TheVariants.{Down, Up}
 use Rattle.scale.specs.Quotient.{Whole, Signed}

@@ -1,5 +1,6 @@
 //! Scales: which places the codes have, and arithmetic on codes rounded below and above.
 #![tactic(auto)]
+
 ghost use Rattle.std.specs.Prelude.{◌≡◌, ℤ};
 ghost use Rattle.number.specs.Place.{Place};
 ghost use Rattle.scale.specs.Scale.{Ordered, Told};

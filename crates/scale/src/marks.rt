@@ -28,7 +28,7 @@ pub(crate) trait MarkedScale {
 }
 
 pub(crate) fn sum<M: MarkedScale>(scale: &M, rounding: Rounding, a: i64, b: i64) -> i64
-    ensures { Sum (marked (marks scale.now)) rounding a b result }
+    ensures { Sum (marked (M.marks scale.now)) rounding a b result }
 {
     match (scale.count(a), scale.count(b)) {
         (Some(x), Some(y)) => scale.fitted(rounding, added(x, y)),
@@ -37,7 +37,7 @@ pub(crate) fn sum<M: MarkedScale>(scale: &M, rounding: Rounding, a: i64, b: i64)
 }
 
 pub(crate) fn difference<M: MarkedScale>(scale: &M, rounding: Rounding, a: i64, b: i64) -> i64
-    ensures { Difference (marked (marks scale.now)) rounding a b result }
+    ensures { Difference (marked (M.marks scale.now)) rounding a b result }
 {
     match (scale.count(a), scale.count(b)) {
         (Some(x), Some(y)) => scale.fitted(rounding, subtracted(x, y)),
@@ -46,7 +46,7 @@ pub(crate) fn difference<M: MarkedScale>(scale: &M, rounding: Rounding, a: i64, 
 }
 
 pub(crate) fn product<M: MarkedScale>(scale: &M, rounding: Rounding, a: i64, b: i64) -> i64
-    ensures { Product (marked (marks scale.now)) rounding a b result }
+    ensures { Product (marked (M.marks scale.now)) rounding a b result }
 {
     match (scale.count(a), scale.count(b)) {
         (Some(x), Some(y)) => scale.fitted(
@@ -58,7 +58,7 @@ pub(crate) fn product<M: MarkedScale>(scale: &M, rounding: Rounding, a: i64, b: 
 }
 
 pub(crate) fn divided<M: MarkedScale>(scale: &M, rounding: Rounding, a: i64, b: i64) -> i64
-    ensures { Quotient (marked (marks scale.now)) rounding a b result }
+    ensures { Quotient (marked (M.marks scale.now)) rounding a b result }
 {
     match (scale.count(a), scale.count(b)) {
         (Some(x), Some(y)) if y != 0 => scale.fitted(
@@ -70,7 +70,7 @@ pub(crate) fn divided<M: MarkedScale>(scale: &M, rounding: Rounding, a: i64, b: 
 }
 
 pub(crate) fn fraction<M: MarkedScale>(scale: &M, rounding: Rounding, f: Fraction) -> i64
-    ensures { Written (marked (marks scale.now)) rounding f result }
+    ensures { Written (marked (M.marks scale.now)) rounding f result }
 {
     if f.has_value() {
         scale.fitted(

@@ -1,5 +1,6 @@
 //! Sheets: lists of instructions in files, and the rules that they keep.
 #![tactic(auto)]
+
 pub(crate) mod cleared;
 pub(crate) mod clearing;
 mod faults;

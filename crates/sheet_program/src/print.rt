@@ -19,7 +19,7 @@ fn number_text(heap: Global, code: i64) -> Result<String, AllocError>
 
 // A code, or an infinity where its place is infinite.
 fn code_text<S: OrderedScale>(heap: Global, scale: &S, code: i64) -> Result<String, AllocError>
-    ensures { IfOk result (λ t. string_bytes t ≡ code_text (place scale.now code) code) }
+    ensures { IfOk result (λ t. string_bytes t ≡ code_text (S.place scale.now code) code) }
 {
     if code <= scale.lowest() {
         String::from_str(heap, "-inf")
@@ -43,7 +43,7 @@ fn range_text<S: OrderedScale>(
     scale: &S,
     shown: Option<Range>,
 ) -> Result<String, AllocError>
-    ensures { IfOk result (λ t. string_bytes t ≡ range_text (place scale.now) shown) }
+    ensures { IfOk result (λ t. string_bytes t ≡ range_text (S.place scale.now) shown) }
 {
     let Some(range) = shown else {
         return String::from_str(heap, "blank");
@@ -60,7 +60,7 @@ fn line_text<S: OrderedScale>(
     line: u8,
     shown: Option<Range>,
 ) -> Result<String, AllocError>
-    ensures { IfOk result (λ t. string_bytes t ≡ line_text (place scale.now) line shown) }
+    ensures { IfOk result (λ t. string_bytes t ≡ line_text (S.place scale.now) line shown) }
 {
     let ends = range_text(heap, scale, shown)?;
     let ends = ends.as_str();
@@ -93,7 +93,7 @@ fn lines_text<S: ArithmeticScale>(
     pad: &Pad<S>,
 ) -> Result<String, AllocError>
     requires { scale_of pad.now ≡ scale.now }
-    ensures { IfOk result (λ t. LinesText (S.OrderedScale.place scale.now) (board_of pad.now) 32 (string_bytes t)) }
+    ensures { IfOk result (λ t. LinesText (S.place scale.now) (board_of pad.now) 32 (string_bytes t)) }
 {
     let mut text = String::new(heap);
     for n in 0..32u8 {
@@ -126,7 +126,7 @@ pub(crate) fn board_text<S: ArithmeticScale>(
     pad: &Pad<S>,
 ) -> Result<String, AllocError>
     requires { scale_of pad.now ≡ scale.now }
-    ensures { IfOk result (λ t. BoardText (S.OrderedScale.place scale.now) (board_of pad.now) (string_bytes t)) }
+    ensures { IfOk result (λ t. BoardText (S.place scale.now) (board_of pad.now) (string_bytes t)) }
 {
     let mut text = lines_text(heap, scale, pad)?;
     let flags = flags_text(heap, pad)?;

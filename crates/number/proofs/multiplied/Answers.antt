@@ -1,4 +1,4 @@
-use Rattle.std.proofs.Common.{◌^◌, ◌<◌, pos, ◌*ℤ◌, arith, w32, w64, SFits}
+use Rattle.std.proofs.Common.{◌^◌, ◌<◌, pos, ◌*ℤ◌, arith, w64, SFits}
 use mir.Val.{hbits}
 use Rattle.std.proofs.lemmas.Int.{to_z-of_z, to_z_pos, ints}
 use Rattle.number.proofs.Written.{product_fits}

@@ -9,16 +9,16 @@ use Rattle.scale.specs.Marked.{marked, counted}
 use Rattle.scale.proofs.Counting.{fraction_works}
 use Rattle.scale.proofs.marks.fraction.Goals as goal
 
-pub returns-then-has-value : goal.returns-then-has-value
-returns-then-has-value g c =
+pub returns-then-has_value : goal.returns-then-has_value
+returns-then-has_value g c =
     let m = g.M.MarkedScale.marks c.args.scale.now in
     let r = c.args.rounding in
     let f = c.args.f in
     let fp : SFits w32 f.p = search rules in
     let fp' : SFits w64 f.p = omega (arith, ints) in
-    let fr : SFits w64 c.fitted.result = record { sfits = c.fitted.type-inv } in
-    let fm : SFits w128 c.multiplied.result = record { sfits = c.multiplied.type-inv } in
-    let fq : SFits w128 c.quotient.result = record { sfits = c.quotient.type-inv } in
+    let fr : SFits w64 c.fitted.result = record { sfits = c.fitted.type_inv } in
+    let fm : SFits w128 c.multiplied.result = record { sfits = c.multiplied.type_inv } in
+    let fq : SFits w128 c.quotient.result = record { sfits = c.quotient.type_inv } in
     let small : c.parts.result < 2 ^ hbits w64 = omega arith in
     let e : c.multiplied.result ≡ f.p *ℤ pos c.parts.result = simp (to_z-of_z, to_z_pos w64 c.parts.result small) at c.multiplied.ensures.value in
     let e' : c.multiplied.result ≡ f.p *ℤ pos m.parts = subst (λ d. c.multiplied.result ≡ f.p *ℤ pos d) c.parts.ensures e in

@@ -1,6 +1,6 @@
-use Rattle.std.proofs.Common.{◌≡◌, pos, ◌+ℤ◌, ◌-ℤ◌, ◌*ℤ◌, Some, subst, arith, w64, SFits, rules}
+use Rattle.std.proofs.Common.{◌≡◌, ◌*ℤ◌, Some, subst, w64, SFits, rules}
 use mir.Syntax.{w128}
-use Rattle.std.proofs.lemmas.Int.{ints, to_z-of_z}
+use Rattle.std.proofs.lemmas.Int.{to_z-of_z}
 use Rattle.number.specs.Place.{at}
 use Rattle.scale.specs.Rounded.{Rounded}
 use Rattle.scale.specs.Quotient.{Whole}
@@ -20,11 +20,11 @@ returns-in-Some-Some g c =
     let fb = c.ranges.b in
     let fx : SFits w64 x = search rules in
     let fy : SFits w64 y = search rules in
-    let fr : SFits w64 c.fitted.result = record { sfits = c.fitted.type-inv } in
+    let fr : SFits w64 c.fitted.result = record { sfits = c.fitted.type_inv } in
     let ea : marked m a ≡ at (counted m x) = simp to_z-of_z at c.in-Some-Some.ensures in
     let eb : marked m b ≡ at (counted m y) = simp to_z-of_z at c.in-Some-Some.ensures' in
-    let fm : SFits w128 c.multiplied.result = record { sfits = c.multiplied.type-inv } in
-    let fq : SFits w128 c.quotient.result = record { sfits = c.quotient.type-inv } in
+    let fm : SFits w128 c.multiplied.result = record { sfits = c.multiplied.type_inv } in
+    let fq : SFits w128 c.quotient.result = record { sfits = c.quotient.type_inv } in
     let e : c.multiplied.result ≡ x *ℤ y = simp to_z-of_z at c.multiplied.ensures.value in
     let w : Whole r c.multiplied.result c.parts.result c.quotient.result = simp to_z-of_z at c.quotient.ensures in
     let h : Rounded (marked m) r (Some (counted m c.quotient.result)) c.fitted.result = simp to_z-of_z at c.fitted.ensures in

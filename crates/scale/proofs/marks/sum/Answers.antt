@@ -1,6 +1,6 @@
-use Rattle.std.proofs.Common.{◌≡◌, pos, ◌+ℤ◌, ◌-ℤ◌, ◌*ℤ◌, Some, subst, arith, w64, SFits, rules}
+use Rattle.std.proofs.Common.{◌≡◌, ◌+ℤ◌, Some, subst, w64, SFits, rules}
 use mir.Syntax.{w128}
-use Rattle.std.proofs.lemmas.Int.{ints, to_z-of_z}
+use Rattle.std.proofs.lemmas.Int.{to_z-of_z}
 use Rattle.number.specs.Place.{at}
 use Rattle.scale.specs.Rounded.{Rounded}
 use Rattle.scale.specs.Marked.{marked, counted}
@@ -19,10 +19,10 @@ returns-in-Some-Some g c =
     let fb = c.ranges.b in
     let fx : SFits w64 x = search rules in
     let fy : SFits w64 y = search rules in
-    let fr : SFits w64 c.fitted.result = record { sfits = c.fitted.type-inv } in
+    let fr : SFits w64 c.fitted.result = record { sfits = c.fitted.type_inv } in
     let ea : marked m a ≡ at (counted m x) = simp to_z-of_z at c.in-Some-Some.ensures in
     let eb : marked m b ≡ at (counted m y) = simp to_z-of_z at c.in-Some-Some.ensures' in
-    let fn : SFits w128 c.added.result = record { sfits = c.added.type-inv } in
+    let fn : SFits w128 c.added.result = record { sfits = c.added.type_inv } in
     let e : c.added.result ≡ x +ℤ y = simp to_z-of_z at c.added.ensures in
     let h : Rounded (marked m) r (Some (counted m c.added.result)) c.fitted.result = simp to_z-of_z at c.fitted.ensures in
     simp to_z-of_z (sum_works m r a b x y ea eb c.fitted.result (subst (λ n. Rounded (marked m) r (Some (counted m n)) c.fitted.result) e h))

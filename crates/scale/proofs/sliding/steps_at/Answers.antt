@@ -1,5 +1,4 @@
-use Rattle.std.proofs.Common.{◌≡◌, ◌+◌, ◌-◌, ◌*◌, ◌/◌, ◌%◌, ◌^◌, ◌<◌, sym, ◌∙◌, mod-eq_of_lt, arith}
-use Rattle.scale.specs.Sliding.{steps}
+use Rattle.std.proofs.Common.{◌+◌, ◌-◌, ◌*◌, ◌/◌, ◌%◌, ◌^◌, ◌<◌, sym, ◌∙◌, mod-eq_of_lt, arith}
 use Rattle.scale.specs.Steps.{steps_small, steps_large, steps_below}
 use Rattle.scale.proofs.sliding.steps_at.Goals as goal
 

@@ -1,5 +1,4 @@
-use Rattle.std.proofs.Common.{◌*ℤ◌, arith, w64, SFits}
-use borrow.Author.Numbers.{signed_product}
+use Rattle.std.proofs.Common.{◌*ℤ◌, arith, SFits}
 use mir.Syntax.{w128}
 use Rattle.std.proofs.lemmas.Int.{ints, to_z-of_z}
 use Rattle.scale.specs.Wholes.{product_small}

@@ -5,6 +5,6 @@ use Rattle.scale.proofs.whole.quotient.Goals as goal
 
 pub returns-in-Up : goal.returns-in-Up
 returns-in-Up c =
-    let q = c.floor-quotient-in-Up.result in
-    let f : SFits w128 q = record { sfits = c.floor-quotient-in-Up.type-inv } in
+    let q = c.floor_quotient-in-Up.result in
+    let f : SFits w128 q = record { sfits = c.floor_quotient-in-Up.type_inv } in
     rw (c.in-Up.is, to_z-of_z w128 q) (omega (arith, ints), omega (arith, ints))

@@ -23,17 +23,17 @@ loop-c-init c = below_none (constant_refusal c.args.bytes.now)
 pub loop-c-preserved : goal.loop-c-preserved
 loop-c-preserved c =
     let bs = c.args.bytes.now in
-    let e = tested bs c.args.layout c.loop-c.c c.fraction.result c.has-value.result c.requires c.fraction.ensures c.has-value.ensures in
-    let t : c.has-value.result ≡ true = search rules in
+    let e = tested bs c.args.layout c.loop-c.c c.fraction.result c.has_value.result c.requires c.fraction.ensures c.has_value.ensures in
+    let t : c.has_value.result ≡ true = search rules in
     below_next (constant_refusal bs) c.loop-c.c None c.loop-c.invariant (e ∙ ap (λ b. unless b (clearing_refusal (Valueless c.loop-c.c)) None) t)
 
-pub returns-then-not-has-value : goal.returns-then-not-has-value
-returns-then-not-has-value c =
+pub returns-then-not-has_value : goal.returns-then-not-has_value
+returns-then-not-has_value c =
     let bs = c.args.bytes.now in
     let i = c.loop-c.c in
     let r = clearing_refusal (Valueless i) in
-    let e = tested bs c.args.layout i c.fraction.result c.has-value.result c.requires c.fraction.ensures c.has-value.ensures in
-    let t : c.has-value.result ≡ false = search rules in
+    let e = tested bs c.args.layout i c.fraction.result c.has_value.result c.requires c.fraction.ensures c.has_value.ensures in
+    let t : c.has_value.result ≡ false = search rules in
     let n = below_next (constant_refusal bs) i (Some r) c.loop-c.invariant (e ∙ ap (λ b. unless b r None) t) in
     let h : i + 1 ≤ c.args.layout.constants = omega arith in
     ap (first_below (constant_refusal bs)) (sym c.requires.1.0) ∙ below_later (constant_refusal bs) (i + 1) c.args.layout.constants r n h

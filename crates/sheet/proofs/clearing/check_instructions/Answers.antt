@@ -17,11 +17,11 @@ loop-place-preserved c =
     let bs = c.args.bytes.now in
     let l = c.args.layout in
     let i = c.loop-place.place in
-    let o = c.in-ok-operation.operation in
+    let o = c.in_ok-operation.operation in
     let r = c.loop-place.ranges in
     let v = c.loop-place.verdicts in
     let k = c.loop-place.lines in
-    let e = c.in-ok-operation.ensures in
+    let e = c.in_ok-operation.ensures in
     let s = c.shape-shape.ensures in
     let at : get_or bs (l.instructions_at + 2 * i + 1) 0 ≡ argument_at bs i = ap (λ n. get_or bs (n + 2 * i + 1) 0) c.requires.1.3 in
     next bs o c.loop-place.invariant e.0
@@ -31,13 +31,13 @@ loop-place-preserved c =
     (λ a. c.after-lines.ensures.kept a ∙ ap (λ b. get_or k.kept a false || is_on o b Keep a) at)
     (λ a. c.after-lines.ensures.reads a ∙ ap (λ b. get_or k.reads a false || (is_on o b Line a && not (get_or k.kept a false))) at)
 
-pub returns-in-err-operation : goal.returns-in-err-operation
-returns-in-err-operation c =
+pub returns-in_err-operation : goal.returns-in_err-operation
+returns-in_err-operation c =
     let bs = c.args.bytes.now in
     let i = c.loop-place.place in
-    let p = err_from_is_err_and c.from-residual.result c.from-residual.ensures.1 in
+    let p = err_from_is_err_and c.from_residual.result c.from_residual.ensures.1 in
     let h : i < instruction_count bs = omega arith in
-    let e = ap (λ n. broken_by n i (operation_at bs i) (argument_at bs i) c.loop-place.ranges.«now» c.loop-place.verdicts.«now») (sym c.requires.1.0) ∙ c.in-err-operation.ensures in
+    let e = ap (λ n. broken_by n i (operation_at bs i) (argument_at bs i) c.loop-place.ranges.«now» c.loop-place.verdicts.«now») (sym c.requires.1.0) ∙ c.in_err-operation.ensures in
     rw (p.1, p.2) (refused_at bs _ c.loop-place.invariant h e)
 
 pub returns : goal.returns

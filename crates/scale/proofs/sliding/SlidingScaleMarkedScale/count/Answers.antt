@@ -10,19 +10,19 @@ use Rattle.scale.proofs.sliding.SlidingScaleMarkedScale.count.Goals as goal
 pub returns-then-code-lt0 : goal.returns-then-code-lt0
 returns-then-code-lt0 c =
     let f = c.ranges.code in
-    let v = c.steps-at-steps.ensures.value in
-    let s = c.steps-at-steps.ensures.small in
-    let n : c.unsigned-abs.result ≡ nat_abs c.args.code = simp to_z-of_z at c.unsigned-abs.ensures.value in
-    let e : mirrored c.args.code ≡ neg_ℤ (pos c.steps-at-steps.result) = mirrored_negative c.args.code (omega (arith, ints)) ∙ ap (λ k. neg_ℤ (pos (steps k))) (sym n) ∙ ap (λ k. neg_ℤ (pos k)) (sym v) in
+    let v = c.steps_at-steps.ensures.value in
+    let s = c.steps_at-steps.ensures.small in
+    let n : c.unsigned_abs.result ≡ nat_abs c.args.code = simp to_z-of_z at c.unsigned_abs.ensures.value in
+    let e : mirrored c.args.code ≡ neg_ℤ (pos c.steps_at-steps.result) = mirrored_negative c.args.code (omega (arith, ints)) ∙ ap (λ k. neg_ℤ (pos (steps k))) (sym n) ∙ ap (λ k. neg_ℤ (pos k)) (sym v) in
     is_number sliding_marks c.args.code (omega (arith, ints)) (omega (arith, ints)) ∙ ap (λ k. at (counted sliding_marks k)) (e ∙ omega (arith, ints))
 
 pub returns-else-code-lt0 : goal.returns-else-code-lt0
 returns-else-code-lt0 c =
     let f = c.ranges.code in
-    let v = c.steps-at-steps.ensures.value in
-    let s = c.steps-at-steps.ensures.small in
-    let n : c.unsigned-abs.result ≡ nat_abs c.args.code = simp to_z-of_z at c.unsigned-abs.ensures.value in
-    let e : mirrored c.args.code ≡ pos c.steps-at-steps.result = mirrored_natural c.args.code (omega (arith, ints)) ∙ ap (λ k. pos (steps k)) (sym n) ∙ ap pos (sym v) in
+    let v = c.steps_at-steps.ensures.value in
+    let s = c.steps_at-steps.ensures.small in
+    let n : c.unsigned_abs.result ≡ nat_abs c.args.code = simp to_z-of_z at c.unsigned_abs.ensures.value in
+    let e : mirrored c.args.code ≡ pos c.steps_at-steps.result = mirrored_natural c.args.code (omega (arith, ints)) ∙ ap (λ k. pos (steps k)) (sym n) ∙ ap pos (sym v) in
     is_number sliding_marks c.args.code (omega (arith, ints)) (omega (arith, ints)) ∙ ap (λ k. at (counted sliding_marks k)) (e ∙ omega (arith, ints))
 
 pub returns-else-code : goal.returns-else-code
