@@ -1,7 +1,7 @@
 -- The ends of the numbers within two bounds. Assumes nothing.
-use Rattle.std.proofs.Common.{◌≡◌, ℕ, Bool, true, false, ◌⊎◌, ◌↔◌, ℤ, is_some, Some, None, Option, sym, refl, ap, ◌∙◌, subst, inl, inr, ⊎_elim, arith}
+use Rattle.std.proofs.Common.{◌≡◌, ℕ, true, false, ℤ, is_some, Some, None, Option, sym, ◌∙◌, subst, arith}
 use Rattle.number.specs.declared.Fraction.{Fraction}
-use Rattle.number.specs.Number.{Number, ◌≼◌, fraction, nought, below}
+use Rattle.number.specs.Number.{Number, fraction, nought, below}
 use Rattle.number.specs.Place.{Place, −∞, at, +∞, ◌⊑◌, Inhabited, Between}
 use Rattle.number.specs.Fraction.{value, higher}
 use Rattle.number.proofs.Fractions.{≼_refl, ≼_trans, ≺_not_≼}
@@ -11,7 +11,6 @@ use Rattle.number.proofs.Written.{value_some, below_true, below_false}
 use Rattle.scale.specs.declared.rounding.Rounding.TheVariants.{Down, Up}
 use Rattle.scale.specs.Scale.{Floor, Ceiling}
 use Rattle.scale.specs.Rounded.{Rounded}
-use Rattle.range.specs.declared.range.Range.{Range}
 use Rattle.range.specs.Bounds.{NotBelow, NotAbove, Within, bound_value}
 use Rattle.range.specs.Hull.{Hull, ends}
 use Rattle.range.proofs.Codes.{lowest_by, highest_by, hull_same}

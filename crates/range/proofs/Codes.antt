@@ -1,12 +1,12 @@
 -- Codes and places on an ordered scale, ranges that hold a number, and hulls. Assumes nothing.
-use Rattle.std.proofs.Common.{◌≡◌, ◌⊎◌, ◌↔◌, ℤ, pos, negsuc, ◌≤ℤ◌, ◌<ℤ◌, sym, refl, ap, ◌∙◌, subst, inl, inr, ⊎_elim, arith}
+use Rattle.std.proofs.Common.{◌≡◌, ℤ, ◌≤ℤ◌, ◌<ℤ◌, sym, refl, ◌∙◌, subst, arith}
 use borrow.Author.Differences.{ints}
 use Rattle.std.specs.Int.{int_max, int_min}
 use Rattle.std.proofs.lemmas.Int.{clamps, by_lt_z}
-use Rattle.number.specs.Number.{Number, ◌≼◌, ◌≃◌}
-use Rattle.number.specs.Place.{Place, −∞, at, +∞, ◌⊑◌, IsLowerBound, IsUpperBound, Inf, Sup, Inhabited, Between}
+use Rattle.number.specs.Number.{Number}
+use Rattle.number.specs.Place.{Place, −∞, at, +∞, ◌⊑◌, Inf, Sup, Inhabited}
 use Rattle.number.proofs.Fractions.{≼_antisym}
-use Rattle.number.proofs.Places.{−∞_least, +∞_greatest, at_⊑, ⊑_at, ⊑_refl, ⊑_trans, ⊑-−∞, +∞-⊑}
+use Rattle.number.proofs.Places.{−∞_least, +∞_greatest, ⊑_at, ⊑_refl, ⊑_trans, ⊑-−∞, +∞-⊑}
 use Rattle.number.proofs.Ends.{range_inf, range_sup}
 use Rattle.number.proofs.Ranges.{range_inhabited}
 use Rattle.scale.specs.Scale.{Code, Floor, Ceiling, Ordered, Told}

@@ -1,13 +1,13 @@
 -- Operations on codes that need only the order of a scale: what the lesser and greater codes of two ranges make, and which truths occur. Assumes nothing.
-use Rattle.std.proofs.Common.{◌≡◌, ℕ, Bool, true, false, not, ◌&&◌, ◌||◌, T, ◌⊎◌, ◌↔◌, ℤ, ◌≤ℤ◌, ◌<ℤ◌, sym, refl, ap, ◌∙◌, subst, inl, inr, ⊎_elim, arith}
+use Rattle.std.proofs.Common.{◌≡◌, ℕ, Bool, true, false, ◌&&◌, ◌||◌, T, ◌⊎◌, ◌↔◌, ℤ, ◌≤ℤ◌, ◌<ℤ◌, sym, refl, ◌∙◌, subst, inl, inr, ⊎_elim, arith}
 use borrow.Author.Differences.{ints}
 use lib.Signed.{lt_z, le_z}
 use Rattle.std.specs.Int.{int_max, int_min}
 use Rattle.std.proofs.lemmas.Int.{clamps, by_lt_z}
-use Rattle.number.specs.Number.{Number, ◌≼◌, ◌≺◌, ◌≃◌}
-use Rattle.number.specs.Place.{Place, −∞, at, +∞, ◌⊑◌, IsLowerBound, IsUpperBound, Inhabited, Between}
-use Rattle.number.proofs.Fractions.{≼_refl, ≼_trans, ≼_or_≺, ≺-≼, ≺_not_≃, ≃_refl, ≃_sym, ≃-≼, ≃-≽, ≄-≺}
-use Rattle.number.proofs.Places.{at_⊑, ⊑_at, ⊑_refl, ⊑_trans}
+use Rattle.number.specs.Number.{Number, ◌≼◌, ◌≺◌}
+use Rattle.number.specs.Place.{Place, −∞, at, +∞, ◌⊑◌, IsLowerBound, IsUpperBound, Inhabited}
+use Rattle.number.proofs.Fractions.{≼_or_≺, ≺-≼, ≺_not_≃, ≃_refl, ≃_sym, ≃-≼, ≃-≽, ≄-≺}
+use Rattle.number.proofs.Places.{at_⊑, ⊑_refl, ⊑_trans}
 use Rattle.number.proofs.Ends.{range_inf, range_sup}
 use Rattle.scale.specs.Scale.{Code, Ordered}
 use Rattle.range.specs.declared.range.Range.{Range}
@@ -15,7 +15,7 @@ use Rattle.range.specs.declared.verdict.Verdict.{Verdict}
 use Rattle.range.specs.Held.{Holds}
 use Rattle.range.specs.Hull.{Hull}
 use Rattle.range.specs.Outcomes.{Lesser, Greater, Either, Both}
-use Rattle.range.specs.Truths.{allowed, Allows, Exactly, Comparisons, Less, IsAtMost, Equal}
+use Rattle.range.specs.Truths.{allowed, Exactly, Comparisons, Less, IsAtMost, Equal}
 use Rattle.range.proofs.Codes.{Codes, code_alone}
 use Rattle.range.proofs.Ordering.{some_at_most, at_most_ends, some_below, below_ends, some_same, hull_bounds, lower_either, upper_either, lower_lesser, upper_lesser, lower_greater, upper_greater, lesser_swap, greater_swap}
 

@@ -3,22 +3,16 @@
 --     hull_bounds                sets with the same bounds have the same hull
 --     join_hull  meet-same  lesser_hull  greater_hull
 --     some_below  some_at_most  some_same        which pairs of members there are
-use Rattle.std.proofs.Common.{◌≡◌, ◌⊎◌, ◌↔◌, ℤ, ◌≤ℤ◌, ◌<ℤ◌, sym, refl, ap, ◌∙◌, subst, inl, inr, ⊎_elim, arith}
-use borrow.Author.Differences.{ints}
-use Rattle.std.specs.Int.{int_max, int_min}
-use Rattle.std.proofs.lemmas.Int.{clamps, by_lt_z}
-use Rattle.number.specs.Number.{Number, ◌≼◌, ◌≺◌, ◌≃◌, plus, minus}
-use Rattle.number.specs.Place.{Place, −∞, at, +∞, ◌⊑◌, IsLowerBound, IsUpperBound, Inf, Sup, Inhabited, Between}
-use Rattle.number.proofs.Fractions.{≼_refl, ≼_trans, ≼_or_≺, ≺-≼, ≺_not_≼, ≺-≼_trans, ≼-≺_trans, ≃_refl, ≃-≼, ≃-≽, ≼_antisym, one, one_less, one_more}
-use Rattle.number.proofs.Places.{−∞_least, +∞_greatest, at_⊑, ⊑_at, ⊑_refl, ⊑_trans, ⊑_or, ⊑_or_not, ⊑-−∞, +∞-⊑}
+use Rattle.std.proofs.Common.{◌≡◌, ◌↔◌, ℤ, sym, refl, subst, inl, inr, ⊎_elim}
+use Rattle.number.specs.Number.{Number, ◌≼◌, ◌≺◌, plus, minus}
+use Rattle.number.specs.Place.{Place, −∞, at, +∞, ◌⊑◌, IsLowerBound, IsUpperBound, Inhabited, Between}
+use Rattle.number.proofs.Fractions.{≼_refl, ≼_trans, ≼_or_≺, ≺-≼, ≺_not_≼, ≺-≼_trans, ≼-≺_trans, ≃_refl, ≃-≼, ≃-≽, one, one_less, one_more}
+use Rattle.number.proofs.Places.{−∞_least, +∞_greatest, at_⊑, ⊑_at, ⊑_refl, ⊑_trans, ⊑_or, ⊑_or_not}
 use Rattle.number.proofs.Ends.{range_inf, range_sup}
 use Rattle.number.proofs.Ranges.{range_inhabited}
-use Rattle.scale.specs.Scale.{Code, Ordered, Told}
 use Rattle.range.specs.declared.range.Range.{Range}
-use Rattle.range.specs.Held.{Holds}
-use Rattle.range.specs.Hull.{Lowest, Highest, Hull, blank, ends}
-use Rattle.range.specs.Outcomes.{Lesser, Greater, Either, Both}
-use Rattle.range.proofs.Codes.{Codes, code_alone, below_high, above_low, not_high, not_low}
+use Rattle.range.specs.Hull.{Hull, blank, ends}
+use Rattle.range.specs.Outcomes.{Lesser, Greater, Either}
 
 -- ---- members of two ranges, by their ends
 module _ {a b c d : Place} (X : Inhabited (Between a b)) (Y : Inhabited (Between c d)) where

@@ -3,7 +3,7 @@
 use Rattle.std.specs.Prelude.{◌≡◌, Bool, true, false, ◌⊎◌, Some}
 use Rattle.number.specs.declared.Fraction.{Fraction}
 use Rattle.number.specs.Number.{Number, ◌≼◌, ◌≃◌, neg, over}
-use Rattle.number.specs.Place.{Set, Outcomes, Products, PositivePart, NegativePart}
+use Rattle.number.specs.Place.{Outcomes, Products, PositivePart, NegativePart}
 use Rattle.number.specs.Fraction.{value}
 
 -- the value of a fraction, however it is written

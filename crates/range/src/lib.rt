@@ -1,5 +1,6 @@
 //! Ranges and verdicts: the tightest range that a scale can write round the exact outcomes of an operation. One text for all scales.
 #![tactic(auto)]
+
 mod arithmetic;
 mod corner;
 mod entry;

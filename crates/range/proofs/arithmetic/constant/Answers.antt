@@ -10,8 +10,8 @@ pub returns : goal.returns
 returns g c =
     let p = g.S.OrderedScale.place c.args.scale.now in
     let f = c.args.f in
-    let fl : SFits w64 c.fraction.result = record { sfits = c.fraction.type-inv } in
-    let fu : SFits w64 c.fraction-2.result = record { sfits = c.fraction-2.type-inv } in
+    let fl : SFits w64 c.fraction.result = record { sfits = c.fraction.type_inv } in
+    let fu : SFits w64 c.fraction-2.result = record { sfits = c.fraction-2.type_inv } in
     let e : is_some (value f) ≡ true = cc in
     let v = value_some f.p f.q e in
     simp to_z-of_z (constant_hull p f (fraction f.p f.q v.0) v.2 c.fraction.result c.fraction-2.result c.fraction.ensures c.fraction-2.ensures)

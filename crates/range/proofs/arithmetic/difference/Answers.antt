@@ -14,9 +14,9 @@ returns g c =
     let fxu : SFits w64 x.upper = search rules in
     let fyl : SFits w64 y.lower = search rules in
     let fyu : SFits w64 y.upper = search rules in
-    let fl : SFits w64 c.difference.result = record { sfits = c.difference.type-inv } in
-    let fu : SFits w64 c.difference-2.result = record { sfits = c.difference-2.type-inv } in
+    let fl : SFits w64 c.difference.result = record { sfits = c.difference.type_inv } in
+    let fu : SFits w64 c.difference-2.result = record { sfits = c.difference-2.type_inv } in
     let l : Difference p Down x.lower y.upper c.difference.result = simp to_z-of_z at c.difference.ensures in
     let u : Difference p Up x.upper y.lower c.difference-2.result = simp to_z-of_z at c.difference-2.ensures in
-    let s = c.if-any-blank.ensures.some refl in
+    let s = c.if-any_blank.ensures.some refl in
     simp to_z-of_z (difference_hull p x y s.0 s.1 c.difference.result c.difference-2.result l u)

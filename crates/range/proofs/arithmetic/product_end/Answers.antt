@@ -14,22 +14,22 @@ returns g c =
     let r = c.args.rounding in
     let x = c.args.x in
     let y = c.args.y in
-    let k = c.product-corner.result in
-    let l = c.product-corner-2.result in
-    let m = c.product-corner-3.result in
-    let n = c.product-corner-4.result in
+    let k = c.product_corner.result in
+    let l = c.product_corner-2.result in
+    let m = c.product_corner-3.result in
+    let n = c.product_corner-4.result in
     let fxl : SFits w64 x.lower = search rules in
     let fxu : SFits w64 x.upper = search rules in
     let fyl : SFits w64 y.lower = search rules in
     let fyu : SFits w64 y.upper = search rules in
-    let fk : SFits w64 k = record { sfits = c.product-corner.type-inv } in
-    let fl : SFits w64 l = record { sfits = c.product-corner-2.type-inv } in
-    let fm : SFits w64 m = record { sfits = c.product-corner-3.type-inv } in
-    let fn : SFits w64 n = record { sfits = c.product-corner-4.type-inv } in
-    let fo : SFits w64 c.outermost.result = record { sfits = c.outermost.type-inv } in
-    let ck : Corner p r (p x.lower ⊙ p y.lower) k = simp to_z-of_z at c.product-corner.ensures in
-    let cl : Corner p r (p x.lower ⊙ p y.upper) l = simp to_z-of_z at c.product-corner-2.ensures in
-    let cm : Corner p r (p x.upper ⊙ p y.lower) m = simp to_z-of_z at c.product-corner-3.ensures in
-    let cn : Corner p r (p x.upper ⊙ p y.upper) n = simp to_z-of_z at c.product-corner-4.ensures in
+    let fk : SFits w64 k = record { sfits = c.product_corner.type_inv } in
+    let fl : SFits w64 l = record { sfits = c.product_corner-2.type_inv } in
+    let fm : SFits w64 m = record { sfits = c.product_corner-3.type_inv } in
+    let fn : SFits w64 n = record { sfits = c.product_corner-4.type_inv } in
+    let fo : SFits w64 c.outermost.result = record { sfits = c.outermost.type_inv } in
+    let ck : Corner p r (p x.lower ⊙ p y.lower) k = simp to_z-of_z at c.product_corner.ensures in
+    let cl : Corner p r (p x.lower ⊙ p y.upper) l = simp to_z-of_z at c.product_corner-2.ensures in
+    let cm : Corner p r (p x.upper ⊙ p y.lower) m = simp to_z-of_z at c.product_corner-3.ensures in
+    let cn : Corner p r (p x.upper ⊙ p y.upper) n = simp to_z-of_z at c.product_corner-4.ensures in
     let e : c.outermost.result ≡ outer r (outer r k l) (outer r m n) = simp to_z-of_z at c.outermost.ensures in
     simp to_z-of_z (subst (λ o. BinaryEnd p r Products x y o) (sym e) (product_end O r x y k l m n ck cl cm cn))

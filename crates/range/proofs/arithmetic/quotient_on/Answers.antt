@@ -10,7 +10,7 @@ pub returns : goal.returns
 returns g c =
     let p = g.S.OrderedScale.place c.args.scale.now in
     let l = c.quotient_end.result in
-    let u = c.quotient-end-2.result in
-    let fl : SFits w64 l = record { sfits = c.quotient_end.type-inv } in
-    let fu : SFits w64 u = record { sfits = c.quotient-end-2.type-inv } in
-    simp to_z-of_z (outcome_hull p over (Holds p c.args.x) (part c.args.side (Holds p c.args.y)) (c.if-is-blank.ensures.some refl) (c.if-not-reaches.ensures.some refl) l u c.quotient_end.ensures c.quotient-end-2.ensures)
+    let u = c.quotient_end-2.result in
+    let fl : SFits w64 l = record { sfits = c.quotient_end.type_inv } in
+    let fu : SFits w64 u = record { sfits = c.quotient_end-2.type_inv } in
+    simp to_z-of_z (outcome_hull p over (Holds p c.args.x) (part c.args.side (Holds p c.args.y)) (c.if-is_blank.ensures.some refl) (c.if-not-reaches.ensures.some refl) l u c.quotient_end.ensures c.quotient_end-2.ensures)

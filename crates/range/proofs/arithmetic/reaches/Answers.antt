@@ -13,7 +13,7 @@ returns-in-Below g c =
     let e = range_negative (p y.lower) (p y.upper) in
     let yes : c.has.result ≡ true → Facing Below (p y.lower) = simp (to_z-of_z, c.in-Below.is) at c.has.ensures.yes in
     let not : c.has.result ≡ false → Facing Below (p y.lower) → ⊥ = simp (to_z-of_z, c.in-Below.is) at c.has.ensures.not in
-    rw c.in-Below.is (record { some = λ h. e.1 (c.if-is-blank.ensures.some refl, yes h); empty = λ h z m. not h (e.0 (z, m)).1 })
+    rw c.in-Below.is (record { some = λ h. e.1 (c.if-is_blank.ensures.some refl, yes h); empty = λ h z m. not h (e.0 (z, m)).1 })
 
 pub returns-in-Above : goal.returns-in-Above
 returns-in-Above g c =
@@ -23,4 +23,4 @@ returns-in-Above g c =
     let e = range_positive (p y.lower) (p y.upper) in
     let yes : c.has-in-Above.result ≡ true → Facing Above (p y.upper) = simp (to_z-of_z, c.in-Above.is) at c.has-in-Above.ensures.yes in
     let not : c.has-in-Above.result ≡ false → Facing Above (p y.upper) → ⊥ = simp (to_z-of_z, c.in-Above.is) at c.has-in-Above.ensures.not in
-    rw c.in-Above.is (record { some = λ h. e.1 (c.if-is-blank.ensures.some refl, yes h); empty = λ h z m. not h (e.0 (z, m)).1 })
+    rw c.in-Above.is (record { some = λ h. e.1 (c.if-is_blank.ensures.some refl, yes h); empty = λ h z m. not h (e.0 (z, m)).1 })

@@ -14,9 +14,9 @@ returns g c =
     let fxu : SFits w64 x.upper = search rules in
     let fyl : SFits w64 y.lower = search rules in
     let fyu : SFits w64 y.upper = search rules in
-    let fl : SFits w64 c.sum.result = record { sfits = c.sum.type-inv } in
-    let fu : SFits w64 c.sum-2.result = record { sfits = c.sum-2.type-inv } in
+    let fl : SFits w64 c.sum.result = record { sfits = c.sum.type_inv } in
+    let fu : SFits w64 c.sum-2.result = record { sfits = c.sum-2.type_inv } in
     let l : Sum p Down x.lower y.lower c.sum.result = simp to_z-of_z at c.sum.ensures in
     let u : Sum p Up x.upper y.upper c.sum-2.result = simp to_z-of_z at c.sum-2.ensures in
-    let s = c.if-any-blank.ensures.some refl in
+    let s = c.if-any_blank.ensures.some refl in
     simp to_z-of_z (sum_hull p x y s.0 s.1 c.sum.result c.sum-2.result l u)

@@ -5,13 +5,13 @@ use Rattle.range.proofs.entry.admits.Goals as goal
 pub returns-in-Some-None : goal.returns-in-Some-None
 returns-in-Some-None c =
     let f = c.in-Some-None.l in
-    let e = c.has-value.ensures in
+    let e = c.has_value.ensures in
     rw (c.in-Some-None.is-0, c.in-Some-None.is-1) (record { some = λ k. low_admits f (sym e ∙ k); empty = λ k x h. low_none f (sym e ∙ k) x h.0 })
 
 pub returns-in-None-Some : goal.returns-in-None-Some
 returns-in-None-Some c =
     let f = c.in-None-Some.u in
-    let e = c.has-value-in-None-Some.ensures in
+    let e = c.has_value-in-None-Some.ensures in
     rw (c.in-None-Some.is-0, c.in-None-Some.is-1) (record { some = λ k. high_admits f (sym e ∙ k); empty = λ k x h. high_none f (sym e ∙ k) x h.1 })
 
 pub returns-in-None-None : goal.returns-in-None-None

@@ -11,17 +11,17 @@ turned_back : (b : Bool) → not b ≡ false → b ≡ true
 turned_back true e = search rules
 turned_back false e = absurd (let z : ◌≡◌ {A = ℕ} 0 1 = cc in omega arith)
 
-pub returns-then-not-has-value : goal.returns-then-not-has-value
-returns-then-not-has-value c = let e : is_some (value c.args.lower) ≡ false = search rules in record { some = λ k. absurd (let z : ◌≡◌ {A = ℕ} 0 1 = cc in omega arith); empty = λ _ x h. low_none c.args.lower e x h.0 }
+pub returns-then-not-has_value : goal.returns-then-not-has_value
+returns-then-not-has_value c = let e : is_some (value c.args.lower) ≡ false = search rules in record { some = λ k. absurd (let z : ◌≡◌ {A = ℕ} 0 1 = cc in omega arith); empty = λ _ x h. low_none c.args.lower e x h.0 }
 
-pub returns-then-not-has-value-2 : goal.returns-then-not-has-value-2
-returns-then-not-has-value-2 c = let e : is_some (value c.args.upper) ≡ false = search rules in record { some = λ k. absurd (let z : ◌≡◌ {A = ℕ} 0 1 = cc in omega arith); empty = λ _ x h. high_none c.args.upper e x h.1 }
+pub returns-then-not-has_value-2 : goal.returns-then-not-has_value-2
+returns-then-not-has_value-2 c = let e : is_some (value c.args.upper) ≡ false = search rules in record { some = λ k. absurd (let z : ◌≡◌ {A = ℕ} 0 1 = cc in omega arith); empty = λ _ x h. high_none c.args.upper e x h.1 }
 
 pub returns : goal.returns
 returns c =
     let e : is_some (value c.args.lower) ≡ true = search rules in
     let f : is_some (value c.args.upper) ≡ true = search rules in
     record {
-      some = λ k. both_admit c.args.lower c.args.upper e f (sym c.is-above.ensures ∙ turned c.is-above.result k);
-      empty = λ k. crossed c.args.lower c.args.upper (sym c.is-above.ensures ∙ turned_back c.is-above.result k);
+      some = λ k. both_admit c.args.lower c.args.upper e f (sym c.is_above.ensures ∙ turned c.is_above.result k);
+      empty = λ k. crossed c.args.lower c.args.upper (sym c.is_above.ensures ∙ turned_back c.is_above.result k);
     }

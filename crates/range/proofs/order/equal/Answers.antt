@@ -1,9 +1,4 @@
-use Rattle.std.proofs.Common.{◌≡◌, refl, ◌∙◌, arith, w64, SFits, rules}
-use Rattle.std.specs.Int.{int_max, int_min}
-use Rattle.std.proofs.lemmas.Int.{ints, to_z-of_z}
-use Rattle.range.specs.declared.range.Range.{Range}
-use Rattle.range.specs.Held.{Holds}
-use Rattle.range.specs.Hull.{Hull}
+use Rattle.std.proofs.Common.{refl, ◌∙◌, rules}
 use Rattle.range.proofs.Codes.{Codes}
 use Rattle.range.proofs.Comparing.{equal_exactly}
 use Rattle.range.proofs.order.equal.Goals as goal
@@ -20,4 +15,4 @@ returns g c =
     let xu = C.upper_code in
     let yl = D.lower_code in
     let yu = D.upper_code in
-    equal_exactly O x y C D (c.if-is-blank.ensures.some refl) (c.if-is-blank-2.ensures.some refl) c.of.result (c.of.ensures.truth ∙ c.overlap.ensures) (c.of.ensures.untruth ∙ c.spread.ensures)
+    equal_exactly O x y C D (c.if-is_blank.ensures.some refl) (c.if-is_blank-2.ensures.some refl) c.of.result (c.of.ensures.truth ∙ c.overlap.ensures) (c.of.ensures.untruth ∙ c.spread.ensures)

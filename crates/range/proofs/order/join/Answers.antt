@@ -1,6 +1,6 @@
-use Rattle.std.proofs.Common.{◌≡◌, sym, refl, ◌∙◌, subst, inl, inr, ⊎_elim, arith, w64, SFits, rules}
+use Rattle.std.proofs.Common.{◌≡◌, refl, ◌∙◌, subst, inl, inr, ⊎_elim, w64, SFits, rules}
 use Rattle.std.specs.Int.{int_max, int_min}
-use Rattle.std.proofs.lemmas.Int.{ints, to_z-of_z}
+use Rattle.std.proofs.lemmas.Int.{to_z-of_z}
 use Rattle.range.specs.declared.range.Range.{Range}
 use Rattle.range.specs.Held.{Holds}
 use Rattle.range.specs.Hull.{Hull}
@@ -20,22 +20,22 @@ returns g c =
     let xu = C.upper_code in
     let yl = D.lower_code in
     let yu = D.upper_code in
-    let fl : SFits w64 c.min.result = record { sfits = c.min.type-inv } in
-    let fu : SFits w64 c.max.result = record { sfits = c.max.type-inv } in
+    let fl : SFits w64 c.min.result = record { sfits = c.min.type_inv } in
+    let fu : SFits w64 c.max.result = record { sfits = c.max.type_inv } in
     let l : c.min.result ≡ int_min x.lower y.lower = simp to_z-of_z at c.min.ensures.value in
     let u : c.max.result ≡ int_max x.upper y.upper = simp to_z-of_z at c.max.ensures.value in
     let e : ◌≡◌ {A = Range} c.new.result (record { lower = int_min x.lower y.lower; upper = int_max x.upper y.upper }) =
     λ i. record { lower = ((simp to_z-of_z at c.new.ensures.low) ∙ l) i; upper = ((simp to_z-of_z at c.new.ensures.high) ∙ u) i } in
     let h = c.copy-2.ensures.hull in
     let k = subst (λ q. Hull p (Holds p q) c.copy-2.result) e h in
-    join_hull O x y C D (c.if-is-blank.ensures.some refl) (c.if-is-blank-2.ensures.some refl) k
+    join_hull O x y C D (c.if-is_blank.ensures.some refl) (c.if-is_blank-2.ensures.some refl) k
 
-pub returns-then-is-blank : goal.returns-then-is-blank
-returns-then-is-blank g c =
-    let n = c.if-is-blank.ensures.empty refl in
+pub returns-then-is_blank : goal.returns-then-is_blank
+returns-then-is_blank g c =
+    let n = c.if-is_blank.ensures.empty refl in
     hull_same (λ z h. inr h) (λ z h. ⊎_elim (λ k. absurd (n z k)) (λ k. k) h) c.copy.ensures.hull
 
-pub returns-then-is-blank-2 : goal.returns-then-is-blank-2
-returns-then-is-blank-2 g c =
-    let n = c.if-is-blank-2.ensures.empty refl in
-    hull_same (λ z h. inl h) (λ z h. ⊎_elim (λ k. k) (λ k. absurd (n z k)) h) c.copy-then-is-blank-2.ensures.hull
+pub returns-then-is_blank-2 : goal.returns-then-is_blank-2
+returns-then-is_blank-2 g c =
+    let n = c.if-is_blank-2.ensures.empty refl in
+    hull_same (λ z h. inl h) (λ z h. ⊎_elim (λ k. k) (λ k. absurd (n z k)) h) c.copy-then-is_blank-2.ensures.hull
