@@ -1,12 +1,12 @@
 -- Working a list of instructions in turn: what holds before each, that nothing is wanting for it, and what has been worked at the end. Assumes nothing.
-use Rattle.std.proofs.Common.{◌≡◌, ℕ, zero, suc, ◌+◌, ◌-◌, ◌<◌, ◌≤◌, Bool, true, false, cond, not, ◌&&◌, ◌||◌, leb, ◌⊎◌, List, [], ◌∷◌, map, length, get_or, drop, is_some, Some, None, Option, sym, refl, ap, ◌∙◌, subst, inl, inr, add-one, arith}
-use Rattle.std.proofs.lemmas.Bool.{cases_Bool, or_cases, and_from, leb-true, false≢true, not_from_false}
+use Rattle.std.proofs.Common.{◌≡◌, ℕ, zero, suc, ◌+◌, ◌<◌, ◌≤◌, Bool, true, false, not, ◌&&◌, leb, List, [], ◌∷◌, length, get_or, drop, is_some, Some, None, Option, sym, refl, ap, ◌∙◌, subst, inl, inr, add-one, arith}
+use Rattle.std.proofs.lemmas.Bool.{or_cases, leb-true, false≢true}
 use Rattle.std.specs.List.{slice_get}
 use Rattle.fault.specs.declared.Refusal.{Refusal}
 use Rattle.sheet.specs.Rules.{unless, first_below}
 use Rattle.sheet.proofs.Firsts.{first_none, below_kept}
 use Rattle.sheet.specs.declared.instruction.Instruction.{Instruction}
-use Rattle.sheet.specs.declared.instruction.Instruction.TheVariants.{Line, Keep, Flag}
+use Rattle.sheet.specs.declared.instruction.Instruction.TheVariants.{Line}
 use Rattle.sheet.specs.Depths.{after, range_depth_at, verdict_depth_at, greatest_range_depth, greatest_verdict_depth}
 use Rattle.sheet.specs.Instructions.{operation}
 use Rattle.sheet.specs.Lines.{any_below, keeps, kept_before, reads_first}
@@ -20,8 +20,8 @@ use Rattle.pad.specs.Boards.{line_at, lines_set}
 use Rattle.pad.specs.Faults.{pad_refusal}
 use Rattle.pad.specs.Ready.{AllowsMove, NamesCell}
 use Rattle.pad.specs.Refusals.{unset_refusal, slots_refusal, work_refusal}
-use Rattle.pad.specs.Working.{Reading, State, state, Step, Steps, Works}
-use Rattle.pad.proofs.Effects.{Effect, effect}
+use Rattle.pad.specs.Working.{Reading, State, state, Step, Steps}
+use Rattle.pad.proofs.Effects.{effect}
 use Rattle.pad.proofs.Unset.{set_at}
 
 -- the rule is kept where nothing is refused

@@ -1,5 +1,5 @@
 -- Laws of the calls of a pad: what a call does by the rule that it breaks, and what its answer tells. Assumes nothing.
-use Rattle.std.proofs.Common.{◌≡◌, ℕ, ◌≤◌, Bool, true, false, List, map, get_or, ℤ, is_some, Some, None, Option, sym, refl, ap, ◌∙◌, subst, arith}
+use Rattle.std.proofs.Common.{◌≡◌, ℕ, ◌≤◌, Bool, List, map, get_or, ℤ, is_some, Some, None, Option, sym, refl, ap, ◌∙◌, subst, arith}
 use Rattle.std.proofs.lemmas.Bool.{le-leb}
 use Rattle.fault.specs.declared.Refusal.{Refusal}
 use Rattle.sheet.specs.Rules.{unless}

@@ -1,5 +1,5 @@
 -- Which lines and flags are set, and whether a line is unset and read before it is kept. Assumes nothing.
-use Rattle.std.proofs.Common.{◌≡◌, ℕ, zero, suc, Bool, true, false, not, ◌&&◌, List, [], ◌∷◌, map, get_or, is_some, Some, None, Option, refl, ap, ◌∙◌}
+use Rattle.std.proofs.Common.{◌≡◌, ℕ, zero, suc, Bool, true, false, not, ◌&&◌, List, [], ◌∷◌, map, get_or, is_some, Some, None, Option, refl, ◌∙◌}
 use Rattle.sheet.specs.Rules.{unless}
 use Rattle.sheet.specs.declared.instruction.Instruction.{Instruction}
 use Rattle.sheet.specs.Lines.{reads_first}

@@ -1,5 +1,5 @@
 -- A board: lines 0 to 31 and flags 0 to 31, each set to something or unset. Assumes nothing.
-use Rattle.std.specs.Prelude.{ℕ, Bool, List, map, set, replicate, is_some, Some, None, Option, slice_index_or, slice_set}
+use Rattle.std.specs.Prelude.{ℕ, Bool, List, map, replicate, is_some, Some, None, Option, slice_index_or, slice_set}
 use Rattle.range.specs.declared.range.Range.{Range}
 use Rattle.range.specs.declared.verdict.Verdict.{Verdict}
 use Rattle.pad.specs.declared.board.Board.{Board}

@@ -1,7 +1,7 @@
 -- A hand working: a number or nothing for each range, a truth or nothing for each verdict, worked exactly on these. Assumes nothing.
 --     WorksByHand        one instruction       AllWorkByHand      one after the other
 --     HandDoes      what a hand working does at a call that the pad accepts
-use Rattle.std.specs.Prelude.{◌≡◌, ℕ, Bool, true, false, not, ◌&&◌, ◌||◌, ◌⊎◌, List, [], ◌∷◌, replicate, Some, None, Option, slice_index_or, slice_set}
+use Rattle.std.specs.Prelude.{◌≡◌, Bool, true, false, not, ◌&&◌, ◌||◌, ◌⊎◌, List, [], ◌∷◌, replicate, Some, None, Option, slice_index_or, slice_set}
 use Rattle.number.specs.Number.{Number, ◌≼◌, ◌≺◌, ◌≃◌, plus, minus, times, over, neg, nought}
 use Rattle.range.specs.declared.entry.Entry.{Entry}
 use Rattle.range.specs.declared.entry.Entry.TheVariants.{Blank, Bounds}

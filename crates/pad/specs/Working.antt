@@ -2,7 +2,7 @@
 --     Reading      the places of a scale, and what may be put
 --     tightest     the pad's reading: every range is the hull of its outcomes, every verdict allows exactly its truths
 --     Step         one instruction       Steps     one after the other       Works      a whole sheet, from empty piles to empty piles
-use Rattle.std.specs.Prelude.{◌≡◌, ℕ, Bool, not, ◌&&◌, ◌||◌, List, [], ◌∷◌, ℤ, Some}
+use Rattle.std.specs.Prelude.{◌≡◌, Bool, not, ◌&&◌, ◌||◌, List, [], ◌∷◌, ℤ, Some}
 use Rattle.number.specs.Number.{Number}
 use Rattle.number.specs.Place.{Place, Sums, Differences, Products, Quotients}
 use Rattle.range.specs.declared.range.Range.{Range}

@@ -1,5 +1,6 @@
 //! The pad: a board of lines and flags, and the calls that enter ranges, work sheets and show what they came to.
 #![tactic(auto)]
+
 pub(crate) mod admission;
 pub(crate) mod board;
 mod faults;

@@ -1,10 +1,9 @@
-use Rattle.std.proofs.Common.{◌≡◌, ◌<◌, [], length, Some, None, sym, refl, ap, ◌∙◌, subst, arith, rules}
-use Rattle.std.specs.List.{slice_get}
+use Rattle.std.proofs.Common.{◌≡◌, ◌<◌, [], sym, refl, ◌∙◌, subst, arith, rules}
 use Rattle.sheet.specs.Held.{instructions_of}
 use Rattle.sheet.proofs.Laws.{workable, counted, nth_before}
 use Rattle.pad.specs.Piles.{held, room}
 use Rattle.pad.specs.Working.{state, tightest}
-use Rattle.pad.proofs.Going.{SoFar, Provided, provided, start, can_range, can_verdict, names_cell, next, finished}
+use Rattle.pad.proofs.Going.{SoFar, provided, start, can_range, can_verdict, names_cell, next, finished}
 use Rattle.pad.proofs.working.work_through.Goals as goal
 
 pub loop-instruction-init : goal.loop-instruction-init
@@ -34,8 +33,8 @@ step-requires g c =
       cell = names_cell ρ xs (state [] [] b) s l.i l.invariant.0 x e _ _ (workable sheet) p;
     }
 
-pub overflow-add-i : goal.overflow-add-i
-overflow-add-i g c =
+pub overflow_add-i : goal.overflow_add-i
+overflow_add-i g c =
     let sheet = c.args.sheet.now in
     let b = nth_before (instructions_of sheet) c.loop-instruction.i c.in-Some.instruction (sym c.in-Some.ensures) in
     let k = (counted sheet).1 in
@@ -67,7 +66,7 @@ returns g c =
     let sheet = c.args.sheet.now in
     let ρ = tightest (g.S.OrderedScale.place c.args.scale.now) in
     let l = c.loop-instruction in
-    let e = sym c.instruction.ensures ∙ c.in-default.is in
+    let e = sym c.instruction.ensures ∙ c.in_default.is in
     record {
       works = finished ρ (instructions_of sheet) (state [] [] c.args.board.now) (state (held l.ranges) (held l.verdicts) l.board) l.i l.invariant.0 (workable sheet) e;
       rooms = (l.invariant.1, l.invariant.2);

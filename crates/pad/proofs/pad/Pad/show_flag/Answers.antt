@@ -1,14 +1,14 @@
-use Rattle.std.proofs.Common.{◌≡◌, true, false, is_some, sym, refl, ap, ◌∙◌, arith}
+use Rattle.std.proofs.Common.{true, false, is_some, sym, refl, ap, ◌∙◌, arith}
 use Rattle.pad.specs.Calls.{show_flag, flag_shown}
 use Rattle.pad.proofs.Laws.{does_refused, does_accepted, show_rule}
 use Rattle.pad.proofs.pad.Pad.show_flag.Goals as goal
 
-pub returns-in-default : goal.returns-in-default
-returns-in-default g c =
+pub returns-in_default : goal.returns-in_default
+returns-in_default g c =
     let b = c.args.self.now.board in
     let n = c.args.flag in
     does_refused (g.S.OrderedScale.place c.args.self.now.scale) (show_flag n) b _
-    (show_rule b.flags.cells n (omega arith) false (ap is_some (sym c.flag.ensures ∙ c.in-default.is)))
+    (show_rule b.flags.cells n (omega arith) false (ap is_some (sym c.flag.ensures ∙ c.in_default.is)))
 
 pub returns : goal.returns
 returns g c =

@@ -1,11 +1,11 @@
 use Rattle.pad.specs.Piles.{held}
-use Rattle.pad.proofs.Piles.{top_set, top_less, depth_held}
-use Rattle.std.proofs.Common.{◌≡◌, ◌+◌, ◌-◌, ◌<◌, ◌≤◌, List, [], ◌∷◌, reverse, length, get_or, take, sym, refl, ap, ◌∙◌, arith, length-set, rules}
+use Rattle.pad.proofs.Piles.{top_less, depth_held}
+use Rattle.std.proofs.Common.{◌≡◌, ◌-◌, ◌<◌, reverse, length, take, arith, rules}
 use Rattle.pad.proofs.pile.Pile.pop.Goals as goal
 
-pub overflow-sub-self : goal.overflow-sub-self
+pub overflow_sub-self : goal.overflow_sub-self
 unfolding held
-overflow-sub-self g c = omega (arith, depth_held c.args.self.now.slots.now c.args.self.now.depth c.args.self.now.within)
+overflow_sub-self g c = omega (arith, depth_held c.args.self.now.slots.now c.args.self.now.depth c.args.self.now.within)
 
 pub bounds-self-self : goal.bounds-self-self
 unfolding held

@@ -1,4 +1,4 @@
-use Rattle.std.proofs.Common.{◌≡◌, ◌<◌, length, arith}
+use Rattle.std.proofs.Common.{◌<◌, length, arith}
 use Rattle.pad.proofs.Piles.{filled_more, filled_all}
 use Rattle.pad.proofs.pile.methods.fill.Goals as goal
 

@@ -1,4 +1,4 @@
-use Rattle.std.proofs.Common.{◌≡◌, length, take, replicate}
+use Rattle.std.proofs.Common.{◌≡◌, take, replicate}
 use Rattle.pad.proofs.pile.methods.fill.Given as goal
 
 abbrev pub invariant-loop-slot : goal.invariant-loop-slot

@@ -1,12 +1,12 @@
 -- `at` lends one cell, and the table follows it, for every type of cell. Assumes `Logic`.
-use Rattle.std.proofs.Common.{◌≡◌, ℕ, zero, suc, ◌+◌, ◌*◌, ◌^◌, ◌<◌, ◌≤◌, max, List, [], ◌∷◌, length, get_or, set, sym, refl, ap, ◌∙◌, subst, le_trans, le_of_suc-le-suc, not-suc-le-zero, mul-le-mul_right, arith, length-set, w64}
+use Rattle.std.proofs.Common.{◌≡◌, ℕ, zero, suc, ◌+◌, ◌*◌, ◌^◌, ◌<◌, ◌≤◌, max, List, [], ◌∷◌, length, get_or, set, sym, refl, ◌∙◌, subst, le_of_suc-le-suc, not-suc-le-zero, mul-le-mul_right, arith, length-set, w64}
 use seplogic.Ra.Ura.{Ura}
 use base.Fraction.{full_share}
-use mir.Syntax.{Fn, Ty, a_type, named, ty_array}
+use mir.Syntax.{Fn, a_type, named}
 use mir.Val.{Val, vptr, vint}
 use mir.MapTy.{inst_fn}
-use base.Logic.{SProp, ent, sep, via, fst∗, snd∗, ex}
-use base.Fml.{Lft, GName, Share, ftrue, feq, fsep, flft, fobs, fbor}
+use base.Logic.{SProp, ent, sep, via, fst∗, snd∗}
+use base.Fml.{Lft, GName, Share, ftrue, feq, fsep, flft}
 use prog.Memory.{Memory, up, align, size}
 use prog.Align.{up-ge}
 use prog.Routine.{Routine}
@@ -34,7 +34,6 @@ use denote.Follow.{follows, Part, lends_Part}
 use denote.Steps.{nothing}
 use denote.Param.{layout, layouts, param}
 use denote.Param.Laws.{Laws, param_laws}
-use denote.Struct.Declared.{Declared}
 use denote.Triple.Clauses.{Clauses, closing}
 use denote.Triple.Entry.{on_entry}
 use denote.Triple.Spec.{Meets, triple_of}
