@@ -1,5 +1,5 @@
 -- The first refusal among the entries. Assumes nothing.
-use Rattle.std.proofs.Common.{◌≡◌, ℕ, zero, suc, ◌+◌, ◌-◌, ◌<◌, ◌≤◌, List, Some, None, Option, sym, refl, ap, ◌∙◌, subst, arith}
+use Rattle.std.proofs.Common.{◌≡◌, ℕ, zero, suc, ◌+◌, ◌-◌, ◌≤◌, List, Some, None, Option, ap, ◌∙◌, subst, arith}
 use Rattle.fault.specs.declared.Refusal.{Refusal}
 use Rattle.program.specs.Refusals.{first, entry_refusal, refusal_before}
 

@@ -1,5 +1,5 @@
 -- The input: a count byte, then so many entries of 18 bytes: line, kind, lower p and q, upper p and q, 32 bits each, little-endian. Assumes nothing.
-use Rattle.std.specs.Prelude.{ℕ, ◌+◌, ◌*◌, cond, List, ℤ, Some, None, ◌==◌, slice_index}
+use Rattle.std.specs.Prelude.{ℕ, ◌+◌, ◌*◌, cond, List, Some, None, ◌==◌, slice_index}
 use Rattle.std.specs.Int.{w32}
 use Rattle.std.proofs.Common.{to_z}
 use Rattle.number.specs.declared.Fraction.{Fraction}

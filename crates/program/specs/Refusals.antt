@@ -1,5 +1,5 @@
 -- The first rule that an input breaks. Assumes nothing.
-use Rattle.std.specs.Prelude.{ℕ, zero, suc, ◌+◌, Bool, cond, ◌&&◌, List, length, Some, None, Option, nat_le, slice_index}
+use Rattle.std.specs.Prelude.{ℕ, zero, suc, ◌+◌, cond, ◌&&◌, List, length, Some, None, Option, nat_le, slice_index}
 use Rattle.fault.specs.declared.Refusal.{Refusal}
 use Rattle.pad.specs.Admission.{enter_refusal}
 use Rattle.program.specs.declared.faults.ProgramFault.TheVariants.{Input}
