@@ -1,5 +1,5 @@
 -- The first rule that an input breaks, from those of its parts. Assumes nothing.
-use Rattle.std.proofs.Common.{◌≡◌, ℕ, zero, suc, Bool, true, false, List, map, set, replicate, ℤ, is_some, Some, None, Option, sym, refl, ap, ◌∙◌, subst}
+use Rattle.std.proofs.Common.{◌≡◌, ℕ, zero, suc, Bool, true, List, set, ℤ, is_some, Some, None, Option, sym, ap, ◌∙◌, subst}
 use Rattle.std.proofs.lemmas.List.{map-set}
 use Rattle.fault.specs.declared.Refusal.{Refusal}
 use Rattle.sheet.specs.Rules.{first, first_below}

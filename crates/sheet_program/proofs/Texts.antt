@@ -1,5 +1,5 @@
 -- The text of a line and of a flag, from what the pad shows of it. Assumes nothing.
-use Rattle.std.proofs.Common.{◌≡◌, ℕ, suc, ◌+◌, ◌≤◌, List, [], ◌++◌, ℤ, Some, None, Option, sym, refl, ◌∙◌, subst, append-nil, arith}
+use Rattle.std.proofs.Common.{◌≡◌, ℕ, suc, ◌+◌, ◌≤◌, List, [], ◌++◌, ℤ, Option, sym, refl, ◌∙◌, subst, append-nil, arith}
 use Rattle.fault.specs.declared.Refusal.{Refusal}
 use Rattle.number.specs.Place.{Place}
 use Rattle.range.specs.declared.range.Range.{Range}

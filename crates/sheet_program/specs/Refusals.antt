@@ -1,5 +1,5 @@
 -- The first rule that an input breaks. Assumes nothing.
-use Rattle.std.specs.Prelude.{ℕ, zero, suc, ◌+◌, Bool, true, false, ◌&&◌, List, length, set, replicate, None, Option, nat_le, slice_set}
+use Rattle.std.specs.Prelude.{ℕ, zero, suc, ◌+◌, Bool, true, false, ◌&&◌, List, length, replicate, None, Option, nat_le, slice_set}
 use Rattle.fault.specs.declared.Refusal.{Refusal}
 use Rattle.sheet.specs.Rules.{unless, first, first_below}
 use Rattle.sheet.specs.Filing.{filing}

@@ -1,5 +1,6 @@
 //! What padrun does with its input, as a function from bytes to the text that is printed.
 #![tactic(auto)]
+
 ghost use Rattle.std.specs.Prelude.{◌≡◌, ◌+◌, ◌<◌, ◌≤◌, length, IfOk, Some, None, string_bytes, MatchResult};
 ghost use Rattle.scale.specs.Ruled.{on_ruled};
 ghost use Rattle.sheet.specs.Instructions.{instructions};

@@ -1,4 +1,4 @@
-use Rattle.std.proofs.Common.{◌≡◌, ◌∙◌, subst, subst₂}
+use Rattle.std.proofs.Common.{◌∙◌, subst, subst₂}
 use Rattle.std.proofs.lemmas.Result.{MatchResult-weaker}
 use Rattle.scale.specs.Ruled.{on_ruled}
 use Rattle.sheet.specs.Instructions.{instructions}
@@ -13,15 +13,15 @@ pub returns : goal.returns
 returns c =
     let bs = c.args.input.now in
     let p = on_ruled (scale_of c.args.pad.now) in
-    let e = c.in-ok-count.ensures in
-    let n = c.in-ok-count.count in
-    let b = board_of c.enter-all.new.pad in
-    let d = board_of c.work-sheet.new.pad in
-    let w = c.work-sheet.ensures in
-    let s = c.read-sheet.ensures in
+    let e = c.in_ok-count.ensures in
+    let n = c.in_ok-count.count in
+    let b = board_of c.enter_all.new.pad in
+    let d = board_of c.work_sheet.new.pad in
+    let w = c.work_sheet.ensures in
+    let s = c.read_sheet.ensures in
     let l = entered_set p bs n b e.enters.4 in
     record {
-      comes = MatchResult-weaker c.work-sheet.result w.works
+      comes = MatchResult-weaker c.work_sheet.result w.works
           (λ _ k. (
             input_rule bs _ n (lines_set b) _ e.enters.0 e.enters.1 l s k.0,
             record {

@@ -3,7 +3,7 @@ use Rattle.pad.specs.Boards.{flag_at}
 use Rattle.sheet_program.specs.Text.{FlagText, FlagsText}
 use Rattle.sheet_program.proofs.Texts.{joined_none, joined_more, joined_same, flag_set, flag_missing}
 use Rattle.sheet_program.proofs.print.flags_text.Goals as goal
-use Rattle.sheet_program.proofs.print.flags_text.Goals.{in-Ok+in-ok-more+in-ok-push-str, in-default}
+use Rattle.sheet_program.proofs.print.flags_text.Goals.{in-Ok+in_ok-more+in_ok-push_str, in_default}
 
 pub loop-n-init : goal.loop-n-init
 loop-n-init g c = joined_none _ (string_bytes c.new-text.result) c.new-text.ensures.bytes
@@ -14,13 +14,13 @@ loop-n-preserved g c =
     let b = c.args.pad.now.board in
     let n = c.loop-n.n in
     let s = string_bytes c.loop-n.text in
-    let t = string_bytes c.match-show-flag.text in
-    elim c.match-show-flag.branch [
-      | in-Ok+in-ok-more+in-ok-push-str w ↦
-          joined_more (λ k. FlagText k (flag_at b k)) n s (string_bytes w.in-ok-more.more) t c.loop-n.invariant
-          (flag_set p b n w.in-Ok.verdict (string_bytes w.in-ok-more.more) w.in-Ok.ensures w.in-ok-more.ensures)
-          (ap string_bytes w.text-is ∙ w.in-ok-push-str.ensures.bytes ∙ ap (λ u. s ++ u) w.as-str.ensures.value)
-      | in-default w ↦ joined_same (λ k. FlagText k (flag_at b k)) n s t c.loop-n.invariant (flag_missing p b n _ (omega arith) w.in-default.ensures) (ap string_bytes w.text-is)
+    let t = string_bytes c.match-show_flag.text in
+    elim c.match-show_flag.branch [
+      | in-Ok+in_ok-more+in_ok-push_str w ↦
+          joined_more (λ k. FlagText k (flag_at b k)) n s (string_bytes w.in_ok-more.more) t c.loop-n.invariant
+          (flag_set p b n w.in-Ok.verdict (string_bytes w.in_ok-more.more) w.in-Ok.ensures w.in_ok-more.ensures)
+          (ap string_bytes w.text-is ∙ w.in_ok-push_str.ensures.bytes ∙ ap (λ u. s ++ u) w.as_str.ensures.value)
+      | in_default w ↦ joined_same (λ k. FlagText k (flag_at b k)) n s t c.loop-n.invariant (flag_missing p b n _ (omega arith) w.in_default.ensures) (ap string_bytes w.text-is)
     ]
 
 pub returns : goal.returns

@@ -5,7 +5,7 @@ use Rattle.pad.specs.Faults.{pad_refusal}
 use Rattle.sheet_program.specs.Text.{LineText, LinesText}
 use Rattle.sheet_program.proofs.Texts.{joined_none, joined_more, joined_same, line_set, line_missing}
 use Rattle.sheet_program.proofs.print.lines_text.Goals as goal
-use Rattle.sheet_program.proofs.print.lines_text.Goals.{in-Ok+in-ok-more+in-ok-push-str, in-default}
+use Rattle.sheet_program.proofs.print.lines_text.Goals.{in-Ok+in_ok-more+in_ok-push_str, in_default}
 
 pub loop-n-init : goal.loop-n-init
 loop-n-init g c = joined_none _ (string_bytes c.new-text.result) c.new-text.ensures.bytes
@@ -16,13 +16,13 @@ loop-n-preserved g c =
     let b = c.args.pad.now.board in
     let n = c.loop-n.n in
     let s = string_bytes c.loop-n.text in
-    let t = string_bytes c.match-show-line.text in
-    elim c.match-show-line.branch [
-      | in-Ok+in-ok-more+in-ok-push-str w ↦
-          joined_more (λ k. LineText p k (line_at b k)) n s (string_bytes w.in-ok-more.more) t c.loop-n.invariant
-          (line_set p b n w.in-Ok.shown (string_bytes w.in-ok-more.more) (subst (λ z. Does (g.S.OrderedScale.place z) (show_line n) b (line_shown w.in-Ok.shown) b) c.requires w.in-Ok.ensures) w.in-ok-more.ensures)
-          (ap string_bytes w.text-is ∙ w.in-ok-push-str.ensures.bytes ∙ ap (λ u. s ++ u) w.as-str.ensures.value)
-      | in-default w ↦ joined_same (λ k. LineText p k (line_at b k)) n s t c.loop-n.invariant (line_missing p b n _ (omega arith) (subst (λ z. Does (g.S.OrderedScale.place z) (show_line n) b (refused (pad_refusal w.in-default.field-0)) b) c.requires w.in-default.ensures)) (ap string_bytes w.text-is)
+    let t = string_bytes c.match-show_line.text in
+    elim c.match-show_line.branch [
+      | in-Ok+in_ok-more+in_ok-push_str w ↦
+          joined_more (λ k. LineText p k (line_at b k)) n s (string_bytes w.in_ok-more.more) t c.loop-n.invariant
+          (line_set p b n w.in-Ok.shown (string_bytes w.in_ok-more.more) (subst (λ z. Does (g.S.OrderedScale.place z) (show_line n) b (line_shown w.in-Ok.shown) b) c.requires w.in-Ok.ensures) w.in_ok-more.ensures)
+          (ap string_bytes w.text-is ∙ w.in_ok-push_str.ensures.bytes ∙ ap (λ u. s ++ u) w.as_str.ensures.value)
+      | in_default w ↦ joined_same (λ k. LineText p k (line_at b k)) n s t c.loop-n.invariant (line_missing p b n _ (omega arith) (subst (λ z. Does (g.S.OrderedScale.place z) (show_line n) b (refused (pad_refusal w.in_default.field-0)) b) c.requires w.in_default.ensures)) (ap string_bytes w.text-is)
     ]
 
 pub returns : goal.returns
