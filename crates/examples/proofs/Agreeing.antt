@@ -1,5 +1,9 @@
 -- A result is the claimed one exactly if the claim holds, since a hull and a set of truths are alone. Assumes nothing.
-use Rattle.std.proofs.Common.{◌≡◌, Bool, true, false, cond, T, ℤ, Decides, sym, refl, ap, ◌∙◌, subst, ap₂}
+use Rattle.std.proofs.Common.{rules, ◌≡◌, ◌&&◌, Bool, true, false, T, ℤ, Decides, sym, refl, ap, ◌∙◌, subst, ap₂}
+use Rattle.std.proofs.lemmas.Bool.Decides.{Decides-at, Decides-like, Decides-and, Decides-int_eq}
+use Rattle.std.specs.Ordering.{int_eq}
+use denote.Enum.Bare.{sameb, same_true, true_same}
+use Rattle.range.specs.contracts.verdict.Verdict.{the_type}
 use Rattle.number.specs.Number.{Number}
 use Rattle.number.specs.Place.{Place}
 use Rattle.range.specs.declared.range.Range.{Range}
@@ -8,18 +12,17 @@ use Rattle.range.specs.declared.verdict.Verdict.TheVariants.{Certain, Impossible
 use Rattle.range.specs.Hull.{Hull}
 use Rattle.range.specs.Truths.{allowed, Exactly}
 use Rattle.range.proofs.Codes.{hull_alone}
-use Rattle.examples.proofs.Extents.{false_true}
 
 -- ---- ranges
 -- what `==` says of two ranges
 abbrev Compared : Bool → Range → Range → Type 0
-Compared b q r =
-    cond b (Decides true (q.lower ≡ r.lower) × Decides true (q.upper ≡ r.upper))
-    ((Decides false (q.lower ≡ r.lower) → ⊥) → (Decides false (q.upper ≡ r.upper) → ⊥) → ⊥)
+Compared b q r = b ≡ (int_eq q.lower r.lower && int_eq q.upper r.upper)
 
 range_decides : (b : Bool) (q r : Range) → Compared b q r → Decides b (q ≡ r)
-range_decides true q r h = (λ _ i. record { lower = h.0.0 refl i; upper = h.1.0 refl i }, λ _. refl)
-range_decides false q r h = (λ e. absurd (false_true e), λ e. absurd (h (λ d. false_true (d.1 (ap (λ (s : Range). s.lower) e))) (λ d. false_true (d.1 (ap (λ (s : Range). s.upper) e)))))
+range_decides b q r h =
+    Decides-at b (int_eq q.lower r.lower && int_eq q.upper r.upper) h
+    (Decides-like (int_eq q.lower r.lower && int_eq q.upper r.upper) (λ e i. record { lower = e.0 i; upper = e.1 i }) (λ e. (ap (λ (s : Range). s.lower) e, ap (λ (s : Range). s.upper) e))
+    (Decides-and (int_eq q.lower r.lower) (int_eq q.upper r.upper) (Decides-int_eq q.lower r.lower) (Decides-int_eq q.upper r.upper)))
 
 pub hull_decides : {p : ℤ → Place} {S : Number → Type 0} (b : Bool) {q : Range} (r : Range) → Hull p S q → Compared b q r → Decides b (Hull p S r)
 hull_decides {p} {S} b {q} r h k =
@@ -52,11 +55,14 @@ exactly_alone {P} {v} {w} h k = sym (of_allowed v) ∙ ap₂ of (at true) (at fa
     at : (b : Bool) → allowed v b ≡ allowed w b
     at b = alike (allowed v b) (allowed w b) (λ s. k.sound b (h.tight b s)) (λ s. h.sound b (k.tight b s))
 
-equal_decides : (b : Bool) (v w : Verdict) → cond b (v ≡ w) (v ≡ w → ⊥) → Decides b (v ≡ w)
-equal_decides true v w h = (λ _. h, λ _. refl)
-equal_decides false v w h = (λ e. absurd (false_true e), λ e. absurd (h e))
+-- what `==` says of two verdicts
+abbrev Alike : Bool → Verdict → Verdict → Type 0
+Alike b v w = b ≡ sameb the_type v w
 
-pub verdict_decides : {P : Bool → Type 0} (b : Bool) {v : Verdict} (w : Verdict) → Exactly P v → cond b (v ≡ w) (v ≡ w → ⊥) → Decides b (Exactly P w)
+equal_decides : (b : Bool) (v w : Verdict) → Alike b v w → Decides b (v ≡ w)
+equal_decides b v w h = (λ e. same_true the_type (search rules) v w (sym h ∙ e), λ e. h ∙ true_same the_type v w e)
+
+pub verdict_decides : {P : Bool → Type 0} (b : Bool) {v : Verdict} (w : Verdict) → Exactly P v → Alike b v w → Decides b (Exactly P w)
 verdict_decides {P} b {v} w h k =
     let d = equal_decides b v w k in
     (λ e. subst (λ s. Exactly P s) (d.0 e) h, λ g. d.1 (exactly_alone h g))

@@ -1,5 +1,6 @@
 //! Worked examples of the rules, proved as one table, and a check of such claims by the library's own functions.
 #![tactic(auto)]
+
 ghost use Rattle.std.specs.Prelude.{◌≡◌, length, Decides};
 ghost use Rattle.range.specs.Held.{Holds};
 ghost use Rattle.range.specs.Truths.{Exactly, Comparisons};
