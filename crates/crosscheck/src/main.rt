@@ -1,5 +1,6 @@
 //! Tries many examples of every operation and every refusal of the pad, on both scales, against separate code, and prints what was tried and every difference.
 #![tactic(auto)]
+
 mod damage;
 mod dice;
 mod draft;

@@ -1,5 +1,6 @@
 //! Reads the input and prints what the library says of it.
 #![tactic(auto)]
+
 use sheet_program::printed;
 use std::io;
 use std::io::Read;
