@@ -11,20 +11,20 @@ fi
 work=$(mktemp -d)
 trap 'rm -rf "$work"' EXIT
 
-# The pad as a static library, from a repository of its own; what is proved already is taken over.
-mkdir -p "$work/crates/padbench/src" "$work/target"
+# The pad as a static library, from a repository of its own.
+mkdir -p "$work/crates/padbench/src"
 for crate in fault number scale range kept sheet pad; do
-    cp -r "$root/crates/$crate" "$work/crates/"
+    mkdir "$work/crates/$crate"
+    for part in src specs proofs; do
+        if [ -d "$root/crates/$crate/$part" ]; then cp -r "$root/crates/$crate/$part" "$work/crates/$crate/"; fi
+    done
     grep "^$crate:" "$root/crates.txt" >> "$work/crates.txt"
 done
-echo 'padbench: number scale range sheet pad' >> "$work/crates.txt"
+echo 'padbench staticlib: number scale range sheet pad' >> "$work/crates.txt"
 cp padbench.rt.txt "$work/crates/padbench/src/lib.rt"
-for made in stamp rlib; do
-    if [ -d "$root/target/$made" ]; then cp -r "$root/target/$made" "$work/target/"; fi
-done
-(cd "$work" && rt staticlib padbench) > "$work/log" 2>&1 || { tail -n 20 "$work/log"; exit 1; }
+(cd "$work/crates/padbench" && rt lib) > "$work/log" 2>&1 || { tail -n 20 "$work/log"; exit 1; }
 
-rustc --edition 2024 -C opt-level=3 -C panic=abort -o "$work/bench" main.rs -L "$work/target/staticlib" -l static=padbench
+rustc --edition 2024 -C opt-level=3 -C panic=abort -o "$work/bench" main.rs -L "$work/crates/padbench/out" -l static=padbench
 g++ -O3 -frounding-math -o "$work/boost" boost.cpp
 gcc -O3 -o "$work/mpfi" mpfi.c -lmpfi -lmpfr -lgmp
 { "$work/bench"; "$work/boost" 2> /dev/null; "$work/mpfi"; } | tee "$work/times"

@@ -1,29 +1,34 @@
 #!/usr/bin/env bash
-# Two misuses of a sheet must not compile. Each is an edit of a near twin that must compile, so that the compiler's message can only be about the misuse.
-# Ends with status 0 only if both twins compile and both misuses are refused with the messages below.
+# Three misuses of a sheet must not compile. Each is an edit of a near twin that must compile, so that the compiler's message can only be about the misuse.
+# Ends with status 0 only if every twin compiles and every misuse is refused with the messages below.
 set -eu
 cd "$(dirname "$0")/.."
 root=$PWD
 work=$(mktemp -d)
 trap 'rm -rf "$work"' EXIT
 
-# A repository of its own: a crate `misuse` above the pad. What is proved already is taken over.
-mkdir -p "$work/crates/misuse/src" "$work/target"
+# A repository of its own: a crate `misuse` above the pad.
+mkdir -p "$work/crates/misuse/src"
 for crate in fault number scale range kept sheet pad; do
-    cp -r "$root/crates/$crate" "$work/crates/"
+    mkdir "$work/crates/$crate"
+    for part in src specs proofs; do
+        if [ -d "$root/crates/$crate/$part" ]; then
+            cp -r "$root/crates/$crate/$part" "$work/crates/$crate/"
+        fi
+    done
     grep "^$crate:" "$root/crates.txt" >> "$work/crates.txt"
 done
 echo 'misuse: scale range sheet pad' >> "$work/crates.txt"
-for made in stamp rlib; do
-    if [ -d "$root/target/$made" ]; then
-        cp -r "$root/target/$made" "$work/target/"
-    fi
-done
 
-# Compiles the source on the standard input. What is said goes to $work/said; nothing is proved of `misuse`.
+# Compiles the source on the standard input, with a test that does nothing, since a crate is compiled without a proof only to run its tests.
+# What is said goes to $work/said; nothing is proved of `misuse`.
 compiles() {
-    cat > "$work/crates/misuse/src/lib.rt"
-    (cd "$work" && rt mir misuse) > "$work/said" 2>&1
+    {
+        echo '#![tactic(auto)]'
+        cat
+        printf '\n#[cfg(test)]\nmod tests {\n    #[test]\n    fn compiles() {}\n}\n'
+    } > "$work/crates/misuse/src/lib.rt"
+    (cd "$work/crates/misuse" && rt try --test) > "$work/said" 2>&1
 }
 
 # misuse NAME TWIN OLD NEW MESSAGE
@@ -51,16 +56,26 @@ misuse() {
     echo "misuse: $name: refused, as it must be"
 }
 
-# Only a cleared sheet can be worked; it may be worked again.
+# Only a cleared sheet has instructions to work.
 misuse uncleared "$(cat <<'END'
+use sheet::{ClearedSheet, FiledSheet, Instruction};
+
+pub fn first_two(filed: FiledSheet, cleared: ClearedSheet) -> (Option<Instruction>, Option<Instruction>) {
+    let first = cleared.instruction(0);
+    let second = cleared.instruction(1);
+    drop(filed);
+    (first, second)
+}
+END
+)" 'cleared.instruction(1)' 'filed.instruction(1)' \
+    'error[unknown-method]: no method named `instruction` found for type `FiledSheet`'
+
+# Only a cleared sheet can be worked; it may be worked again.
+misuse unworkable "$(cat <<'END'
 use pad::Pad;
-use range::Range;
-use range::Verdict;
-use scale::SlidingArithmetic;
-use scale::SlidingOrdered;
+use range::{Range, Verdict};
 use scale::SlidingScale;
-use sheet::ClearedSheet;
-use sheet::FiledSheet;
+use sheet::{ClearedSheet, FiledSheet};
 
 pub fn twice(pad: &mut Pad<SlidingScale>, filed: FiledSheet, cleared: ClearedSheet, ranges: &mut [Range], verdicts: &mut [Verdict]) -> bool {
     let first = pad.work(&cleared, ranges, verdicts);

@@ -7,7 +7,7 @@ crates=("$@")
 [ ${#crates[@]} -gt 0 ] || for folder in tools/planted/*/; do crates+=("$(basename "$folder")"); done
 copy=$(mktemp -d)
 trap 'rm -rf "$copy"' EXIT
-cp -r crates crates.txt "$copy"
+git ls-files -z crates crates.txt | xargs -0 cp --parents -t "$copy"
 rm -f "$copy"/crates/*/must-fail/*.edit
 for crate in "${crates[@]}"; do
   mkdir -p "$copy/crates/$crate/must-fail"
