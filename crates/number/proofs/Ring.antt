@@ -2,7 +2,7 @@
 -- `omega (arith, ints)` reads an integer z as up z - down z, and a product of two of them, but no sum or product inside a product.
 -- Here a term of ℤ is written once more as an expression e, whose parts hi e and lo e are polynomials of naturals, with hi e - lo e = val e.
 -- omega multiplies those out: `ring e f (omega arith) : val e ≡ val f`. A fact times a factor is handed over multiplied.
---     # z    an unknown          n ⁺    the natural n          _⊕_  _⊗_  ⊖_    the operations
+--     # z    an unknown          n ⁺    the natural n          ◌⊕◌  ◌⊗◌  ⊖◌    the operations
 --     e ⊛ n  e times the natural n, with fewer monomials than e ⊗ n ⁺
 --     ring  at_most  below                  into val e ≡ val f, val e ≤ℤ val f, val e <ℤ val f
 --     ring_out  at_most_out  below_out      back

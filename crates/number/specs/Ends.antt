@@ -1,6 +1,6 @@
 -- The ends of sums, products and quotients of ranges, from the ends of the ranges. Assumes nothing.
---     _⊹_              the sum of two lower ends, or of two upper ends
---     _⊙_              the product of two ends: that of a number and an infinity goes by the number's sign, and is 0 for 0
+--     ◌⊹◌              the sum of two lower ends, or of two upper ends
+--     ◌⊙◌              the product of two ends: that of a number and an infinity goes by the number's sign, and is 0 for 0
 --     Corners          a place is not above any of the four products of ends         Corners⁺       none of them is above it
 --     recip⁺ recip⁻    one over an end, among the positive numbers, and among the negative ones
 use Rattle.std.specs.Prelude.{ℕ, zero, suc, ℤ, pos, negsuc}

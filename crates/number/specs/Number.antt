@@ -1,6 +1,6 @@
 -- Numbers: fractions of two whole numbers, the lower part positive. Assumes nothing.
 --     Number                             top / bottom
---     _≼_  _≺_  _≃_                      not above, below, the same value: by cross multiplication
+--     ◌≼◌  ◌≺◌  ◌≃◌                      not above, below, the same value: by cross multiplication
 --     plus  neg  minus  times  over      the operations; `over x y` is x / y, and 0 where y is 0
 use Rattle.std.specs.Prelude.{◌≡◌, ℕ, zero, suc, ◌*◌, ◌<◌, Bool, ℤ, pos, negsuc, ◌+ℤ◌, ◌*ℤ◌, neg_ℤ, ◌≤ℤ◌, ◌<ℤ◌, int_lt}
 use Rattle.std.proofs.Common.{mul-pos, arith}

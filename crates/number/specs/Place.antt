@@ -1,7 +1,7 @@
 -- Places: minus infinity, a number or plus infinity; and sets of numbers. Assumes nothing.
---     _⊑_                   not above
+--     ◌⊑◌                   not above
 --     opp                   the place mirrored at 0
---     IsLowerBound q S       q is not above any number of S          IsUpperBound q S      q is not below any
+--     IsLowerBound q S      q is not above any number of S        IsUpperBound q S       q is not below any
 --     Inf S i               i is the greatest lower bound of S      Sup S i              i is the least upper bound
 --     Between a b           the numbers from a to b; an infinity is never one of them
 --     Outcomes f X Y        what f comes to, for every choice of members

@@ -155,6 +155,10 @@ module _ {p : ℤ → Place} (O : Ordered p) where
         (lowest_by (range_inf (x, h)) (floor_place C.lower_code (below_high C.lower_code h.0)))
         (highest_by (range_sup (x, h)) (ceiling_place C.upper_code (above_low C.upper_code h.1))))
 
+    -- the same, of two codes
+    pub copied_hull : (r : Range) → Codes r → (x : Number) → Holds p r x → (a b : ℤ) → a ≡ int_max low r.lower → b ≡ int_min high r.upper → Hull p (Holds p r) (record { lower = a; upper = b })
+    copied_hull r C x h a b e f = range_hull r C x h _ (λ i. record { lower = e i; upper = f i })
+
     -- the hull of what a hull holds is itself
     pub hull_again : {S : Number → Type 0} {r : Range} → Hull p S r → Hull p (Holds p r) r
     hull_again {S} {r} (blank n e) = blank (λ x h. nothing_holds x (subst (λ s. Holds p s x) e h)) e

@@ -1,7 +1,6 @@
 -- Hulls and comparisons that need only the order of a scale. Assumes nothing.
---     code-up  code-down         the order of codes is that of their places
 --     hull_bounds                sets with the same bounds have the same hull
---     join_hull  meet-same  lesser_hull  greater_hull
+--     lower_either  upper_either  lower_lesser  upper_lesser  lower_greater  upper_greater      their bounds
 --     some_below  some_at_most  some_same        which pairs of members there are
 use Rattle.std.proofs.Common.{◌≡◌, ◌↔◌, ℤ, sym, refl, subst, inl, inr, ⊎_elim}
 use Rattle.number.specs.Number.{Number, ◌≼◌, ◌≺◌, plus, minus}

@@ -1,7 +1,7 @@
 //! Cleared sheets: what clearing found, and the instructions.
 ghost use Rattle.std.specs.Prelude.{◌≡◌, ◌<◌, false, length, is_some, Some, None};
 ghost use Rattle.std.specs.List.{slice_get};
-ghost use Rattle.sheet.specs.declared.operation.Operation.TheVariants.{Constant as constant-operation};
+ghost use Rattle.sheet.specs.declared.operation.Operation.TheVariants.{Constant as constant_operation};
 ghost use Rattle.sheet.specs.Files.{constant};
 ghost use Rattle.sheet.specs.Filing.{filing, Laid};
 ghost use Rattle.sheet.specs.Instructions.{named, instructions};
@@ -62,7 +62,7 @@ impl<'a> Cleared<'a> {
 
     // The instruction of the operation and its argument.
     fn named(&self, operation: Operation, argument: u8) -> Instruction
-        requires { operation ≡ constant-operation → argument < self.now.layout.constants }
+        requires { operation ≡ constant_operation → argument < self.now.layout.constants }
         ensures { result ≡ named operation argument (constant self.now.bytes.now argument) }
     {
         match operation {

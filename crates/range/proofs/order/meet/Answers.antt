@@ -1,6 +1,6 @@
-use Rattle.std.proofs.Common.{◌≡◌, ◌∙◌, subst, w64, SFits, rules}
+use Rattle.std.proofs.Common.{◌≡◌, subst, arith, rules}
 use Rattle.std.specs.Int.{int_max, int_min}
-use Rattle.std.proofs.lemmas.Int.{to_z-of_z}
+use Rattle.std.proofs.lemmas.Int.{ints, clamps}
 use Rattle.range.specs.declared.range.Range.{Range}
 use Rattle.range.specs.Held.{Holds}
 use Rattle.range.specs.Hull.{Hull}
@@ -20,12 +20,10 @@ returns g c =
     let xu = C.upper_code in
     let yl = D.lower_code in
     let yu = D.upper_code in
-    let fl : SFits w64 c.max.result = record { sfits = c.max.type_inv } in
-    let fu : SFits w64 c.min.result = record { sfits = c.min.type_inv } in
-    let l : c.max.result ≡ int_max x.lower y.lower = simp to_z-of_z at c.max.ensures.value in
-    let u : c.min.result ≡ int_min x.upper y.upper = simp to_z-of_z at c.min.ensures.value in
+    let l : c.new.result.lower ≡ int_max x.lower y.lower = omega (arith, ints, clamps) in
+    let u : c.new.result.upper ≡ int_min x.upper y.upper = omega (arith, ints, clamps) in
     let e : ◌≡◌ {A = Range} c.new.result (record { lower = int_max x.lower y.lower; upper = int_min x.upper y.upper }) =
-    λ i. record { lower = ((simp to_z-of_z at c.new.ensures.low) ∙ l) i; upper = ((simp to_z-of_z at c.new.ensures.high) ∙ u) i } in
+    λ i. record { lower = l i; upper = u i } in
     let h = c.copy.ensures.hull in
     let k = subst (λ q. Hull p (Holds p q) c.copy.result) e h in
     hull_same (meet_to O x y C D) (meet_from O x y C D) k
