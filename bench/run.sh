@@ -3,8 +3,6 @@
 # It installs Debian's libboost-dev and libmpfi-dev where they are missing. Run it on an idle machine, from anywhere.
 set -euo pipefail
 cd "$(dirname "$0")"
-here=$PWD
-root=$here/..
 if ! dpkg -s libboost-dev libmpfi-dev > /dev/null 2>&1; then
     apt-get update -qq > /dev/null && apt-get install -y -qq libboost-dev libmpfi-dev > /dev/null
 fi
@@ -13,13 +11,7 @@ trap 'rm -rf "$work"' EXIT
 
 # The pad as a static library, from a repository of its own.
 mkdir -p "$work/crates/padbench/src"
-for crate in fault number scale range kept sheet pad; do
-    mkdir "$work/crates/$crate"
-    for part in src specs proofs; do
-        if [ -d "$root/crates/$crate/$part" ]; then cp -r "$root/crates/$crate/$part" "$work/crates/$crate/"; fi
-    done
-    grep "^$crate:" "$root/crates.txt" >> "$work/crates.txt"
-done
+../tools/copy.sh "$work" fault number scale range kept sheet pad
 echo 'padbench staticlib: number scale range sheet pad' >> "$work/crates.txt"
 cp padbench.rt.txt "$work/crates/padbench/src/lib.rt"
 (cd "$work/crates/padbench" && rt lib) > "$work/log" 2>&1 || { tail -n 20 "$work/log"; exit 1; }

@@ -3,21 +3,12 @@
 # Ends with status 0 only if every twin compiles and every misuse is refused with the messages below.
 set -eu
 cd "$(dirname "$0")/.."
-root=$PWD
 work=$(mktemp -d)
 trap 'rm -rf "$work"' EXIT
 
 # A repository of its own: a crate `misuse` above the pad.
 mkdir -p "$work/crates/misuse/src"
-for crate in fault number scale range kept sheet pad; do
-    mkdir "$work/crates/$crate"
-    for part in src specs proofs; do
-        if [ -d "$root/crates/$crate/$part" ]; then
-            cp -r "$root/crates/$crate/$part" "$work/crates/$crate/"
-        fi
-    done
-    grep "^$crate:" "$root/crates.txt" >> "$work/crates.txt"
-done
+tools/copy.sh "$work" fault number scale range kept sheet pad
 echo 'misuse: scale range sheet pad' >> "$work/crates.txt"
 
 # Compiles the source on the standard input, with a test that does nothing, since a crate is compiled without a proof only to run its tests.

@@ -5,7 +5,8 @@ use Rattle.fault.specs.declared.Refusal.{Refusal}
 use Rattle.sheet.specs.Rules.{unless}
 use Rattle.number.specs.Place.{Place}
 use Rattle.pad.specs.declared.board.Board.{Board}
-use Rattle.pad.specs.declared.faults.PadFault.TheVariants.{NoLine, Unset}
+use Rattle.pad.specs.declared.faults.PadFault.{PadFault}
+use Rattle.pad.specs.declared.faults.PadFault.TheVariants.{Unset}
 use Rattle.pad.specs.Calls.{Call, enter, work, show_line, show_flag, wipe, Answer, refused, refusal_at, Accepted, Does, DoesBy}
 use Rattle.pad.specs.Faults.{pad_refusal}
 use Rattle.pad.specs.Promises.{refusal_in}
@@ -44,10 +45,10 @@ is_none None r f e = refl
 is_none (Some x) r f e = let z : ◌≡◌ {A = ℕ} 0 1 = cc in absurd (omega arith)
 
 -- the rules of a show of a cell that is there, by whether it is set
-module _ {A : Type 0} (cells : List (Option A)) (n : ℕ) (h : n ≤ 31) where
-  pub show_rule : (s : Bool) → is_some (get_or cells n None) ≡ s → show_refusal n (map is_some cells) ≡ unless s (pad_refusal (Unset n)) None
-  show_rule s e = (λ i. unless (le-leb n 31 h i) (pad_refusal (NoLine n)) (unless ((set_at cells n ∙ e) i) (pad_refusal (Unset n)) None))
+module _ {A : Type 0} (missing : PadFault) (cells : List (Option A)) (n : ℕ) (h : n ≤ 31) where
+  pub show_rule : (s : Bool) → is_some (get_or cells n None) ≡ s → show_refusal missing n (map is_some cells) ≡ unless s (pad_refusal (Unset n)) None
+  show_rule s e = (λ i. unless (le-leb n 31 h i) (pad_refusal missing) (unless ((set_at cells n ∙ e) i) (pad_refusal (Unset n)) None))
 
   -- it is refused only where it is unset
-  pub show_unset : (f : Refusal) → show_refusal n (map is_some cells) ≡ Some f → get_or cells n None ≡ None
+  pub show_unset : (f : Refusal) → show_refusal missing n (map is_some cells) ≡ Some f → get_or cells n None ≡ None
   show_unset f e = is_none (get_or cells n None) (pad_refusal (Unset n)) f (sym (show_rule (is_some (get_or cells n None)) refl) ∙ e)

@@ -18,7 +18,7 @@ use Rattle.pad.specs.declared.faults.PadFault.{PadFault}
 use Rattle.pad.specs.Admission.{enter_refusal}
 use Rattle.pad.specs.Boards.{fresh, line_at, flag_at, lines_set, flags_set, with_line}
 use Rattle.pad.specs.Faults.{pad_refusal}
-use Rattle.pad.specs.Refusals.{show_refusal, work_refusal}
+use Rattle.pad.specs.Refusals.{show_line_refusal, show_flag_refusal, work_refusal}
 use Rattle.pad.specs.Working.{Works, tightest}
 
 -- the numbers with a sheet are its slots for ranges and for verdicts
@@ -39,8 +39,8 @@ pub data Answer : Type 0 where
 abbrev pub refusal : Call → List Bool → List Bool → Option Refusal
 refusal (enter a e) lines flags = enter_refusal a e
 refusal (work s m n) lines flags = work_refusal (instructions_of s) lines m n
-refusal (show_line a) lines flags = show_refusal a lines
-refusal (show_flag a) lines flags = show_refusal a flags
+refusal (show_line a) lines flags = show_line_refusal a lines
+refusal (show_flag a) lines flags = show_flag_refusal a flags
 refusal wipe lines flags = None
 
 abbrev pub refusal_at : Call → Board → Option Refusal

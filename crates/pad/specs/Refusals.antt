@@ -5,12 +5,19 @@ use Rattle.sheet.specs.Rules.{unless, first, first_below}
 use Rattle.sheet.specs.declared.instruction.Instruction.{Instruction}
 use Rattle.sheet.specs.Depths.{greatest_range_depth, greatest_verdict_depth}
 use Rattle.sheet.specs.Lines.{reads_first}
-use Rattle.pad.specs.declared.faults.PadFault.TheVariants.{NoLine, Unset, RangeSlots, VerdictSlots}
+use Rattle.pad.specs.declared.faults.PadFault.{PadFault}
+use Rattle.pad.specs.declared.faults.PadFault.TheVariants.{NoLine, NoFlag, Unset, RangeSlots, VerdictSlots}
 use Rattle.pad.specs.Faults.{pad_refusal}
 
--- show of the line or flag n, by which lines, or which flags, are set
-abbrev pub show_refusal : ℕ → List Bool → Option Refusal
-show_refusal n cells = unless (nat_le n 31) (pad_refusal (NoLine n)) (unless (slice_index_or cells n false) (pad_refusal (Unset n)) None)
+-- show of the line or flag n, by which lines, or which flags, are set: `missing` where n is over 31
+abbrev pub show_refusal : PadFault → ℕ → List Bool → Option Refusal
+show_refusal missing n cells = unless (nat_le n 31) (pad_refusal missing) (unless (slice_index_or cells n false) (pad_refusal (Unset n)) None)
+
+abbrev pub show_line_refusal : ℕ → List Bool → Option Refusal
+show_line_refusal n lines = show_refusal (NoLine n) n lines
+
+abbrev pub show_flag_refusal : ℕ → List Bool → Option Refusal
+show_flag_refusal n flags = show_refusal (NoFlag n) n flags
 
 -- the line a is unset, and read before it is kept
 abbrev pub unset_refusal : List Instruction → List Bool → ℕ → Option Refusal

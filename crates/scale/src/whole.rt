@@ -50,7 +50,7 @@ pub(crate) fn quotient(rounding: Rounding, n: i128, d: u64) -> i128
 
 // n / d for a divisor of either sign, rounded.
 pub(crate) fn signed_quotient(rounding: Rounding, n: i128, d: i64) -> i128
-    requires { ((d ≢ pos 0)) × ((neg_ℤ (pos (2 ^ 126)) ≤ℤ n) × (n ≤ℤ pos (2 ^ 126))) }
+    requires { (d ≢ pos 0) × ((neg_ℤ (pos (2 ^ 126)) ≤ℤ n) × (n ≤ℤ pos (2 ^ 126))) }
     ensures { Signed rounding n d result }
 {
     if d < 0 {

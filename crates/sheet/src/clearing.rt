@@ -45,7 +45,7 @@ impl Depth {
 
 impl Lines {
     fn after(self, operation: Operation, argument: u8) -> Lines
-        requires { ((operation ≡ Line → argument ≤ 31)) × ((operation ≡ Keep → argument ≤ 31)) }
+        requires { (operation ≡ Line → argument ≤ 31) × (operation ≡ Keep → argument ≤ 31) }
         ensures kept { (a : ℕ) → slice_index_or result.kept a false ≡ (slice_index_or self.kept a false || is_on operation argument Keep a) }
         ensures reads { (a : ℕ) → slice_index_or result.reads a false ≡ (slice_index_or self.reads a false || (is_on operation argument Line a && not (slice_index_or self.kept a false))) }
     {

@@ -7,6 +7,7 @@ use Rattle.range.specs.declared.verdict.Verdict.{Verdict}
 use Rattle.pad.specs.declared.board.Board.{Board}
 use Rattle.pad.specs.Boards.{line_at, flag_at}
 use Rattle.pad.specs.Calls.{Does, Shown, show_line, show_flag, line_shown, flag_shown, refused}
+use Rattle.pad.specs.declared.faults.PadFault.TheVariants.{NoLine, NoFlag}
 use Rattle.pad.proofs.Laws.{is_accepted, is_refused, show_unset}
 use Rattle.sheet_program.specs.Text.{line_text, flag_text, LineText, FlagText, Joined}
 
@@ -31,7 +32,7 @@ module _ (p : ℤ → Place) (b : Board) (n : ℕ) where
       subst (λ l. LineText p n l t) (sym a.2) (o, subst (Shown p a.0) q a.3, e)
 
   pub line_missing : (f : Refusal) → n ≤ 31 → Does p (show_line n) b (refused f) b → LineText p n (line_at b n) []
-  line_missing f h w = subst (λ l. LineText p n l []) (sym (show_unset b.lines.cells n h f (is_refused p (show_line n) b (refused f) b w f refl).0)) refl
+  line_missing f h w = subst (λ l. LineText p n l []) (sym (show_unset (NoLine n) b.lines.cells n h f (is_refused p (show_line n) b (refused f) b w f refl).0)) refl
 
   pub flag_set : (v : Verdict) (t : List ℕ) → Does p (show_flag n) b (flag_shown v) b → t ≡ flag_text n v → FlagText n (flag_at b n) t
   flag_set v t w e =
@@ -41,4 +42,4 @@ module _ (p : ℤ → Place) (b : Board) (n : ℕ) where
       subst (λ l. FlagText n l t) (sym a.1) (subst (λ z. t ≡ flag_text n z) (sym q) e)
 
   pub flag_missing : (f : Refusal) → n ≤ 31 → Does p (show_flag n) b (refused f) b → FlagText n (flag_at b n) []
-  flag_missing f h w = subst (λ l. FlagText n l []) (sym (show_unset b.flags.cells n h f (is_refused p (show_flag n) b (refused f) b w f refl).0)) refl
+  flag_missing f h w = subst (λ l. FlagText n l []) (sym (show_unset (NoFlag n) b.flags.cells n h f (is_refused p (show_flag n) b (refused f) b w f refl).0)) refl
