@@ -1,10 +1,12 @@
 //! What every refusal tells, whichever layer refuses.
 #![tactic(auto)]
 
-ghost use Rattle.std.specs.Prelude.{◌≡◌};
+ghost use Rattle.std.specs.Prelude.{◌≡◌, Some};
 ghost use Rattle.fault.specs.Layers.{layer_name};
-ghost use Rattle.fault.specs.Told.{refused};
+ghost use Rattle.fault.specs.Told.{refused, refusal_name};
 ghost use Rattle.fault.specs.declared.Refusal.{Refusal as Told};
+
+use std::fmt;
 
 /// The layers that refuse.
 #[derive(Clone, Copy, PartialEq, Eq, Debug)]
@@ -31,6 +33,15 @@ impl Layer {
     }
 }
 
+/// Its name.
+impl fmt::Display for Layer {
+    ghost output = { λ l. Some (layer_name l) };
+
+    fn fmt<W: fmt::Write>(&self, f: &mut fmt::Formatter<W>) -> fmt::Result {
+        f.write_str(self.name())
+    }
+}
+
 /// A refusal: the layer, the number of the broken rule, and the place at which it is broken.
 #[derive(Clone, Copy, PartialEq, Eq, Debug)]
 pub struct Refusal {
@@ -48,6 +59,18 @@ impl Refusal {
             number,
             place,
         }
+    }
+}
+
+/// As in `refused 9 pad 32`: the number, the layer and the place.
+impl fmt::Display for Refusal {
+    ghost output = { λ r. Some (refusal_name r) };
+
+    fn fmt<W: fmt::Write>(&self, f: &mut fmt::Formatter<W>) -> fmt::Result {
+        let number = self.number;
+        let layer = self.layer;
+        let place = self.place;
+        write!(f, "refused {number} {layer} {place}")
     }
 }
 

@@ -1,7 +1,7 @@
 -- The value of a written fraction. Assumes nothing.
 --     value_some      a fraction with a value is p / q
 --     higher_is       which of two is the higher, by cross multiplication
-use Rattle.std.proofs.Common.{◌≡◌, ℕ, zero, suc, ◌-◌, ◌^◌, ◌<◌, ◌≤◌, Bool, true, false, cond, T, ltb, ℤ, pos, negsuc, ◌*ℤ◌, is_some, Some, None, Option, sym, refl, ap, subst, mul-le-mul, arith, w32, w64, SFits, ltb-true}
+use Rattle.std.proofs.Common.{◌≡◌, ℕ, zero, suc, ◌<◌, ◌≤◌, Bool, true, false, cond, T, ltb, ℤ, pos, ◌*ℤ◌, is_some, Some, None, sym, refl, ap, subst, arith, ltb-true}
 use lib.Signed.{lt_z}
 use borrow.Author.Differences.{ints}
 use Rattle.number.specs.declared.Fraction.{Fraction}
@@ -25,25 +25,3 @@ below_true e = record { under = record { lt = subst T (sym e) tt } }
 
 pub below_false : {x y : Number} → below x y ≡ false → y ≼ x
 below_false {x} {y} e = record { not_above = omega (arith, ints) }
-
-pub none_lower : (o : Option Number) → is_some o ≡ false → (p : Option Number) → higher o p ≡ false
-none_lower None e p = refl
-none_lower (Some x) e p = absurd (let z : ◌≡◌ {A = ℕ} 0 1 = cc in omega arith)
-
-pub none_higher : (o p : Option Number) → is_some p ≡ false → higher o p ≡ false
-none_higher None p e = refl
-none_higher (Some x) None e = refl
-none_higher (Some x) (Some y) e = absurd (let z : ◌≡◌ {A = ℕ} 0 1 = cc in omega arith)
-
--- a signed number of 32 bits times another of 32 bits
-pub product_fits : (p : ℤ) (q : ℕ) → SFits w32 p → q < 2 ^ 32 → SFits w64 (p *ℤ pos q)
-product_fits (pos n) q f l =
-    let a : n ≤ 2 ^ 31 = omega (arith, ints) in
-    let b : q ≤ 2 ^ 32 - 1 = omega arith in
-    let m = mul-le-mul a b in
-    omega (arith, ints)
-product_fits (negsuc n) q f l =
-    let a : suc n ≤ 2 ^ 31 = omega (arith, ints) in
-    let b : q ≤ 2 ^ 32 - 1 = omega arith in
-    let m = mul-le-mul a b in
-    omega (arith, ints)

@@ -3,6 +3,7 @@
 
 ghost use Rattle.std.specs.Prelude.{◌≡◌, pos, ◌*ℤ◌, is_some};
 ghost use Rattle.number.specs.Fraction.{value, higher};
+ghost use Rattle.number.specs.Bytes.{fraction_at};
 
 /// The greatest lower part of a fraction that has a value.
 const LAST: u32 = 2147483647;
@@ -22,6 +23,17 @@ fn multiplied(p: i32, q: u32) -> i64
 }
 
 impl Fraction {
+    /// The fraction as it stands in a file or an input: p, then q, each with its lowest byte first.
+    pub fn from_le_bytes(bytes: [u8; 8]) -> Fraction
+        ensures { result ≡ fraction_at bytes 0 }
+    {
+        let [a, b, c, d, e, f, g, h] = bytes;
+        Fraction {
+            p: i32::from_le_bytes([a, b, c, d]),
+            q: u32::from_le_bytes([e, f, g, h]),
+        }
+    }
+
     /// Whether the fraction has a value.
     pub fn has_value(self) -> bool
         ensures { result ≡ is_some (value self) }
@@ -33,12 +45,8 @@ impl Fraction {
     pub fn is_above(self, other: Fraction) -> bool
         ensures { result ≡ higher (value self) (value other) }
     {
-        if !self.has_value() {
-            return false;
-        }
-        if !other.has_value() {
-            return false;
-        }
-        multiplied(other.p, self.q) < multiplied(self.p, other.q)
+        self.has_value()
+            && other.has_value()
+            && multiplied(other.p, self.q) < multiplied(self.p, other.q)
     }
 }
