@@ -19,7 +19,7 @@ pub struct Fraction {
 fn multiplied(p: i32, q: u32) -> i64
     ensures { result ≡ p *ℤ pos q }
 {
-    p as i64 * q as i64
+    i64::from(p) * i64::from(q)
 }
 
 impl Fraction {
@@ -42,6 +42,7 @@ impl Fraction {
     }
 
     /// Whether both fractions have values and this one's is the higher, compared exactly.
+    // not by `PartialOrd`: `==` compares how a fraction is written, and an order by value does not agree with it
     pub fn is_above(self, other: Fraction) -> bool
         ensures { result ≡ higher (value self) (value other) }
     {

@@ -22,3 +22,8 @@ marked m c = cond (int_lt c m.first) −∞ (cond (int_lt m.last c) +∞ (at (co
 abbrev pub Counted : Marks → ℤ → Option ℤ → Type 0
 Counted m c None = (x : Number) → marked m c ≢ at x
 Counted m c (Some n) = marked m c ≡ at (counted m n)
+
+-- the same of two codes, and none where either place is infinite
+abbrev pub CountedBoth : Marks → ℤ → ℤ → Option (ℤ × ℤ) → Type 0
+CountedBoth m a b None = (x y : Number) → marked m a ≡ at x → marked m b ≢ at y
+CountedBoth m a b (Some n) = (marked m a ≡ at (counted m n.0)) × (marked m b ≡ at (counted m n.1))

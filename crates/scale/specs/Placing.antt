@@ -4,7 +4,8 @@
 --     ordered  told          the laws of a scale
 --     floor_at  ceiling_at   the code of a count, from a code that tells which codes count no more, or no less
 --     rounded_count          a number rounds as its count does
-use Rattle.std.specs.Prelude.{◌≡◌, ℕ, Bool, true, false, cond, ◌↔◌, ℤ, pos, ◌+ℤ◌, ◌-ℤ◌, ◌*ℤ◌, ◌≤ℤ◌, ◌<ℤ◌, Some, ◌≢◌, int_lt, refl}
+use Rattle.std.specs.Prelude.{◌≡◌, ℕ, Bool, true, false, cond, ◌↔◌, ℤ, pos, ◌+ℤ◌, ◌-ℤ◌, ◌*ℤ◌, ◌≤ℤ◌, ◌<ℤ◌, Some, ◌≢◌, int_lt, MatchBool, refl}
+use Rattle.std.specs.Bool.{then_some}
 use Rattle.std.proofs.Common.{sym, subst, arith}
 use Rattle.std.specs.Int.{int_max, int_min}
 use Rattle.std.proofs.lemmas.Int.{clamps, by_lt_z, ints}
@@ -17,7 +18,7 @@ use Rattle.scale.specs.declared.rounding.Rounding.TheVariants.{Down, Up}
 use Rattle.scale.specs.Scale.{Code, Floor, Ceiling, Zero, Ordered, Told}
 use Rattle.scale.specs.Rounded.{Rounded}
 use Rattle.scale.specs.Quotient.{Whole}
-use Rattle.scale.specs.Marked.{Marks, counted, marked}
+use Rattle.scale.specs.Marked.{Marks, counted, marked, Counted}
 use Rattle.scale.specs.Wholes.{times_back, whole_down, whole_up}
 
 -- ---- places that differ
@@ -64,6 +65,11 @@ module _ (m : Marks) where
 
     pub no_number : (m.first ≤ℤ c → c ≤ℤ m.last → ⊥) → (x : Number) → marked m c ≢ at x
     no_number n x = by_place c (λ p. p ≢ at x) (λ _. low_no_number) (λ _. high_no_number) (λ l h. absurd (n l h))
+
+  -- how many parts a code counts, by a test whether it has a number
+  pub counted_within : (c : ℤ) (b : Bool) → MatchBool b ((m.first ≤ℤ c) × (c ≤ℤ m.last)) (m.first ≤ℤ c → c ≤ℤ m.last → ⊥) → Counted m c (then_some b (m.count c))
+  counted_within c true h = is_number c h.0 h.1
+  counted_within c false h = no_number c h
 
   -- ---- the order of counts
   pub at_most_in : (a b : ℤ) → a ≤ℤ b → at (counted m a) ⊑ at (counted m b)

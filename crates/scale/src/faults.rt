@@ -15,7 +15,7 @@ impl Fault for ScaleFault {
 
     fn refusal(&self) -> Refusal {
         match self {
-            ScaleFault::Division(d) => Refusal::new(Layer::Scale, 12, *d as u64),
+            ScaleFault::Division(d) => Refusal::new(Layer::Scale, 12, u64::from(*d)),
         }
     }
 }

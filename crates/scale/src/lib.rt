@@ -1,10 +1,10 @@
 //! Scales: which places the codes have, and arithmetic on codes rounded below and above.
 #![tactic(auto)]
 
-ghost use Rattle.std.specs.Prelude.{◌≡◌, ℤ};
+ghost use Rattle.std.specs.Prelude.{◌≡◌, ℤ, None};
 ghost use Rattle.number.specs.Place.{Place};
 ghost use Rattle.scale.specs.Scale.{Ordered, Told};
-ghost use Rattle.scale.specs.Rounded.{Sum, Difference, Product, Quotient, Written};
+ghost use Rattle.scale.specs.Rounded.{Rounded, Sum, Difference, Product, Quotient, Written};
 
 mod faults;
 mod marks;
@@ -43,6 +43,16 @@ pub trait OrderedScale {
     fn highest(&self) -> i64
         ensures { result ≡ high self.now };
 
+    /// The code of a result that is no number: the told infinite one below or above.
+    final fn infinite(&self, rounding: Rounding) -> i64
+        ensures { Rounded (place self.now) rounding None result }
+    {
+        match rounding {
+            Rounding::Down => self.lowest(),
+            Rounding::Up => self.highest(),
+        }
+    }
+
     /// A lower code never has the higher place, and two codes with numbers never have the same number.
     ghost ordered: { (s : Self) → Ordered (place s) };
 
@@ -51,6 +61,7 @@ pub trait OrderedScale {
 
 /// An arithmetic scale also works out sums, differences, products and quotients of two codes, and fractions, each rounded below or above.
 /// Where an operand's place is infinite, the divisor is 0 or a fraction has no value, below is the greatest code for minus infinity and above the least for plus infinity.
+// rounding and operands are parameters of each, as a sum reads; a struct of them would be taken apart in each
 pub trait ArithmeticScale: OrderedScale {
     fn sum(&self, rounding: Rounding, a: i64, b: i64) -> i64
         ensures { Sum (Self.OrderedScale.place self.now) rounding a b result };

@@ -1,13 +1,15 @@
 //! Arithmetic on scales of marks, once for all of them: a code becomes a count of parts, the counts are worked out exactly and rounded to a whole count, and that becomes a code again.
-ghost use Rattle.std.specs.Prelude.{◌≡◌, Some, None};
-ghost use Rattle.scale.specs.Marked.{Marks, marked, counted, Counted};
-ghost use Rattle.scale.specs.Rounded.{Rounded, Sum, Difference, Product, Quotient, Written};
+ghost use Rattle.std.specs.Prelude.{◌≡◌, Some};
+ghost use Rattle.std.specs.Option.{option_map};
+ghost use Rattle.scale.specs.Marked.{Marks, marked, counted, Counted, CountedBoth};
+ghost use Rattle.scale.specs.Rounded.{Rounded};
 
 use crate::rounding::Rounding;
-use crate::whole::{added, multiplied, quotient, signed_quotient, subtracted};
+use crate::whole::Product;
+use crate::{ArithmeticScale, OrderedScale};
 use number::Fraction;
 
-pub(crate) trait MarkedScale {
+pub(crate) trait MarkedScale: OrderedScale {
     ghost marks: { Self → Marks };
 
     // How many parts make 1.
@@ -22,66 +24,61 @@ pub(crate) trait MarkedScale {
     fn fitted(&self, rounding: Rounding, count: i128) -> i64
         ensures { Rounded (marked (marks self.now)) rounding (Some (counted (marks self.now) count)) result };
 
-    // The code for a result that is no number.
-    fn infinite(&self, rounding: Rounding) -> i64
-        ensures { Rounded (marked (marks self.now)) rounding None result };
-}
-
-pub(crate) fn sum<M: MarkedScale>(scale: &M, rounding: Rounding, a: i64, b: i64) -> i64
-    ensures { Sum (marked (M.marks scale.now)) rounding a b result }
-{
-    match (scale.count(a), scale.count(b)) {
-        (Some(x), Some(y)) => scale.fitted(rounding, added(x, y)),
-        _ => scale.infinite(rounding),
+    // The counts of two codes; none where either place is infinite.
+    final fn counts(&self, a: i64, b: i64) -> Option<(i64, i64)>
+        ensures { CountedBoth (marks self.now) a b result }
+    {
+        self.count(a).zip(self.count(b))
     }
-}
 
-pub(crate) fn difference<M: MarkedScale>(scale: &M, rounding: Rounding, a: i64, b: i64) -> i64
-    ensures { Difference (marked (M.marks scale.now)) rounding a b result }
-{
-    match (scale.count(a), scale.count(b)) {
-        (Some(x), Some(y)) => scale.fitted(rounding, subtracted(x, y)),
-        _ => scale.infinite(rounding),
+    // The code of so many parts, rounded; of none, for a result that is no number.
+    final fn rounded(&self, rounding: Rounding, count: Option<i128>) -> i64
+        ensures { Rounded (marked (marks self.now)) rounding (option_map (counted (marks self.now)) count) result }
+    {
+        match count {
+            Some(n) => self.fitted(rounding, n),
+            None => self.infinite(rounding),
+        }
     }
+
+    /// The marks give the places.
+    ghost placed: { (s : Self) → Self.place s ≡ marked (marks s) };
 }
 
-pub(crate) fn product<M: MarkedScale>(scale: &M, rounding: Rounding, a: i64, b: i64) -> i64
-    ensures { Product (marked (M.marks scale.now)) rounding a b result }
-{
-    match (scale.count(a), scale.count(b)) {
-        (Some(x), Some(y)) => scale.fitted(
-            rounding,
-            quotient(rounding, multiplied(x, y), scale.parts() as u64),
-        ),
-        _ => scale.infinite(rounding),
+impl<M: MarkedScale> ArithmeticScale for M {
+    fn sum(&self, rounding: Rounding, a: i64, b: i64) -> i64 {
+        let count = self
+            .counts(a, b)
+            .map(|(x, y)| i128::from(x) + i128::from(y));
+        self.rounded(rounding, count)
     }
-}
 
-pub(crate) fn divided<M: MarkedScale>(scale: &M, rounding: Rounding, a: i64, b: i64) -> i64
-    ensures { Quotient (marked (M.marks scale.now)) rounding a b result }
-{
-    match (scale.count(a), scale.count(b)) {
-        (Some(x), Some(y)) if y != 0 => scale.fitted(
-            rounding,
-            signed_quotient(rounding, multiplied(x, scale.parts() as i64), y),
-        ),
-        _ => scale.infinite(rounding),
+    fn difference(&self, rounding: Rounding, a: i64, b: i64) -> i64 {
+        let count = self
+            .counts(a, b)
+            .map(|(x, y)| i128::from(x) - i128::from(y));
+        self.rounded(rounding, count)
     }
-}
 
-pub(crate) fn fraction<M: MarkedScale>(scale: &M, rounding: Rounding, f: Fraction) -> i64
-    ensures { Written (marked (M.marks scale.now)) rounding f result }
-{
-    if f.has_value() {
-        scale.fitted(
-            rounding,
-            quotient(
-                rounding,
-                multiplied(f.p as i64, scale.parts() as i64),
-                f.q as u64,
-            ),
-        )
-    } else {
-        scale.infinite(rounding)
+    fn product(&self, rounding: Rounding, a: i64, b: i64) -> i64 {
+        let parts = u64::from(self.parts());
+        let count = self
+            .counts(a, b)
+            .map(|(x, y)| Product::of(x, y).divided(rounding, parts));
+        self.rounded(rounding, count)
+    }
+
+    fn quotient(&self, rounding: Rounding, a: i64, b: i64) -> i64 {
+        let parts = i64::from(self.parts());
+        let count = self
+            .counts(a, b)
+            .and_then(|(x, y)| Product::of(x, parts).divided_signed(rounding, y));
+        self.rounded(rounding, count)
+    }
+
+    fn fraction(&self, rounding: Rounding, f: Fraction) -> i64 {
+        let p = Product::of(i64::from(f.p), i64::from(self.parts()));
+        let count = f.has_value().then(|| p.divided(rounding, u64::from(f.q)));
+        self.rounded(rounding, count)
     }
 }

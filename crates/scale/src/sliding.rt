@@ -1,5 +1,5 @@
 //! The sliding scale: fine marks near 0, which double in width from one block of 4,096 codes to the next.
-ghost use Rattle.std.specs.Prelude.{◌≡◌, ◌+◌, ◌^◌, ◌<◌, ◌≤◌, pos, negsuc};
+ghost use Rattle.std.specs.Prelude.{◌≡◌, ◌+◌, ◌^◌, ◌<◌, ◌≤◌, pos, negsuc, refl};
 ghost use Rattle.number.specs.Place.{at};
 ghost use Rattle.scale.specs.Scale.{Floor};
 ghost use Rattle.scale.specs.Marked.{counted};
@@ -9,11 +9,10 @@ ghost use Rattle.scale.specs.Steps.{sliding_rising};
 ghost use Rattle.std.proofs.Common.{arith};
 ghost use Rattle.std.proofs.lemmas.Int.{ints};
 
+use crate::OrderedScale;
 use crate::marks::MarkedScale;
 use crate::rounding::Rounding;
 use crate::whole::clamped;
-use crate::{ArithmeticScale, OrderedScale, marks};
-use number::Fraction;
 
 // The greatest code with a number.
 const LAST: i64 = 81919;
@@ -49,7 +48,7 @@ fn code_of(n: u64) -> u64
         return n;
     }
     let shift = n.ilog2() - 12;
-    4096 * shift as u64 + (n >> shift)
+    4096 * u64::from(shift) + (n >> shift)
 }
 
 // The greatest code that counts no more than n, among the codes with numbers and the one below them.
@@ -66,17 +65,18 @@ fn floor_code(n: i64) -> i64
 impl MarkedScale for SlidingScale {
     ghost marks = { λ _. sliding_marks };
 
+    ghost placed = { λ _. refl };
+
     fn parts(&self) -> u32 {
         4096
     }
 
     fn count(&self, code: i64) -> Option<i64> {
-        if -LAST <= code && code <= LAST {
-            let steps = steps_at(code.unsigned_abs()) as i64;
-            Some(if code < 0 { -steps } else { steps })
-        } else {
-            None
+        if !(-LAST..=LAST).contains(&code) {
+            return None;
         }
+        let steps = steps_at(code.unsigned_abs()) as i64;
+        Some(if code < 0 { -steps } else { steps })
     }
 
     fn fitted(&self, rounding: Rounding, count: i128) -> i64 {
@@ -86,15 +86,9 @@ impl MarkedScale for SlidingScale {
             Rounding::Up => -floor_code(-n),
         }
     }
-
-    fn infinite(&self, rounding: Rounding) -> i64 {
-        match rounding {
-            Rounding::Down => -LAST - 1,
-            Rounding::Up => LAST + 1,
-        }
-    }
 }
 
+// The told codes stand in each scale: one impl for all scales of marks would be no shorter, since it needs a member for the last code and laws that tie it to the marks.
 impl OrderedScale for SlidingScale {
     ghost place = { λ _. sliding };
 
@@ -118,27 +112,5 @@ impl OrderedScale for SlidingScale {
 
     fn highest(&self) -> i64 {
         LAST + 1
-    }
-}
-
-impl ArithmeticScale for SlidingScale {
-    fn sum(&self, rounding: Rounding, a: i64, b: i64) -> i64 {
-        marks::sum(self, rounding, a, b)
-    }
-
-    fn difference(&self, rounding: Rounding, a: i64, b: i64) -> i64 {
-        marks::difference(self, rounding, a, b)
-    }
-
-    fn product(&self, rounding: Rounding, a: i64, b: i64) -> i64 {
-        marks::product(self, rounding, a, b)
-    }
-
-    fn quotient(&self, rounding: Rounding, a: i64, b: i64) -> i64 {
-        marks::divided(self, rounding, a, b)
-    }
-
-    fn fraction(&self, rounding: Rounding, f: Fraction) -> i64 {
-        marks::fraction(self, rounding, f)
     }
 }

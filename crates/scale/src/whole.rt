@@ -1,62 +1,56 @@
 //! Products and quotients of whole numbers, exact or rounded.
-ghost use Rattle.std.specs.Prelude.{◌≡◌, ◌^◌, ◌<◌, ◌≤◌, pos, ◌+ℤ◌, ◌-ℤ◌, ◌*ℤ◌, neg_ℤ, ◌≤ℤ◌, ◌≢◌};
-ghost use Rattle.scale.specs.declared.rounding.Rounding.TheVariants.{Down};
+ghost use Rattle.std.specs.Prelude.{◌≡◌, ◌^◌, ◌<◌, pos, ◌*ℤ◌, neg_ℤ, ◌≤ℤ◌, ◌↔◌, IsNone, IfSome};
 ghost use Rattle.std.specs.Int.{int_max, int_min};
 ghost use Rattle.scale.specs.Quotient.{Whole, Signed};
 
 use crate::rounding::Rounding;
 
-// The sum of two counts.
-pub(crate) fn added(a: i64, b: i64) -> i128
-    ensures { result ≡ a +ℤ b }
-{
-    a as i128 + b as i128
+// The exact product of two counts. It leaves room for its negation, and for a divisor on top.
+#[derive(Clone, Copy)]
+pub(crate) struct Product {
+    value: i128,
+    ghost least: { neg_ℤ (pos (2 ^ 126)) ≤ℤ value },
+    ghost most: { value ≤ℤ pos (2 ^ 126) },
 }
 
-// The difference of two counts.
-pub(crate) fn subtracted(a: i64, b: i64) -> i128
-    ensures { result ≡ a -ℤ b }
-{
-    a as i128 - b as i128
-}
-
-// The product of two counts.
-pub(crate) fn multiplied(a: i64, b: i64) -> i128
-    ensures value { result ≡ a *ℤ b }
-    ensures least { neg_ℤ (pos (2 ^ 126)) ≤ℤ result }
-    ensures most { result ≤ℤ pos (2 ^ 126) }
-{
-    a as i128 * b as i128
-}
-
-// n / d, rounded down.
-fn floor_quotient(n: i128, d: u64) -> i128
-    requires { 0 < d }
-    ensures { Whole Down n d result }
-{
-    n.div_euclid(d as i128)
-}
-
-// n / d, rounded.
-pub(crate) fn quotient(rounding: Rounding, n: i128, d: u64) -> i128
-    requires { (0 < d) × ((neg_ℤ (pos (2 ^ 126)) ≤ℤ n) × (n ≤ℤ pos (2 ^ 126))) }
-    ensures { Whole rounding n d result }
-{
-    match rounding {
-        Rounding::Down => floor_quotient(n, d),
-        Rounding::Up => floor_quotient(n + (d as i128 - 1), d),
+impl Product {
+    pub(crate) fn of(a: i64, b: i64) -> Product
+        ensures { result.value ≡ a *ℤ b }
+    {
+        Product {
+            value: i128::from(a) * i128::from(b),
+        }
     }
-}
 
-// n / d for a divisor of either sign, rounded.
-pub(crate) fn signed_quotient(rounding: Rounding, n: i128, d: i64) -> i128
-    requires { (d ≢ pos 0) × ((neg_ℤ (pos (2 ^ 126)) ≤ℤ n) × (n ≤ℤ pos (2 ^ 126))) }
-    ensures { Signed rounding n d result }
-{
-    if d < 0 {
-        quotient(rounding, -n, d.unsigned_abs())
-    } else {
-        quotient(rounding, n, d as u64)
+    fn negated(self) -> Product
+        ensures { result.value ≡ neg_ℤ self.value }
+    {
+        Product { value: -self.value }
+    }
+
+    // The product / d, rounded.
+    pub(crate) fn divided(self, rounding: Rounding, d: u64) -> i128
+        requires { 0 < d }
+        ensures { Whole rounding self.value d result }
+    {
+        let d = i128::from(d);
+        // A division in each arm, which is faster than one for both.
+        match rounding {
+            Rounding::Down => self.value.div_euclid(d),
+            Rounding::Up => (self.value + (d - 1)).div_euclid(d),
+        }
+    }
+
+    // The same for a divisor of either sign; none for a divisor of 0.
+    pub(crate) fn divided_signed(self, rounding: Rounding, d: i64) -> Option<i128>
+        ensures none { IsNone result ↔ (d ≡ pos 0) }
+        ensures some { IfSome result (Signed rounding self.value d) }
+    {
+        if d == 0 {
+            return None;
+        }
+        let n = if d < 0 { self.negated() } else { self };
+        Some(n.divided(rounding, d.unsigned_abs()))
     }
 }
 
@@ -65,11 +59,5 @@ pub(crate) fn clamped(n: i128, low: i64, high: i64) -> i64
     requires { low ≤ℤ high }
     ensures { result ≡ int_max low (int_min n high) }
 {
-    if n < low as i128 {
-        low
-    } else if (high as i128) < n {
-        high
-    } else {
-        n as i64
-    }
+    n.clamp(i128::from(low), i128::from(high)) as i64
 }

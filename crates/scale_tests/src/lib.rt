@@ -6,39 +6,34 @@ mod tests {
     use fault::{Fault, Layer, Refusal};
     use number::Fraction;
     use scale::{ArithmeticScale, OrderedScale, Rounding, RuledScale, SlidingScale};
-    use std::process::Abort;
     use std::test::Fail;
 
     // ---- each result as the code below and the code above
 
+    fn both<F: Fn(Rounding) -> i64>(code: F) -> (i64, i64)
+        requires { F.IsAlwaysCallable code }
+    {
+        (code(Rounding::Down), code(Rounding::Up))
+    }
+
     fn sums<S: ArithmeticScale>(s: &S, a: i64, b: i64) -> (i64, i64) {
-        (s.sum(Rounding::Down, a, b), s.sum(Rounding::Up, a, b))
+        both(|rounding| s.sum(rounding, a, b))
     }
 
     fn differences<S: ArithmeticScale>(s: &S, a: i64, b: i64) -> (i64, i64) {
-        (
-            s.difference(Rounding::Down, a, b),
-            s.difference(Rounding::Up, a, b),
-        )
+        both(|rounding| s.difference(rounding, a, b))
     }
 
     fn products<S: ArithmeticScale>(s: &S, a: i64, b: i64) -> (i64, i64) {
-        (
-            s.product(Rounding::Down, a, b),
-            s.product(Rounding::Up, a, b),
-        )
+        both(|rounding| s.product(rounding, a, b))
     }
 
     fn quotients<S: ArithmeticScale>(s: &S, a: i64, b: i64) -> (i64, i64) {
-        (
-            s.quotient(Rounding::Down, a, b),
-            s.quotient(Rounding::Up, a, b),
-        )
+        both(|rounding| s.quotient(rounding, a, b))
     }
 
     fn fractions<S: ArithmeticScale>(s: &S, p: i32, q: u32) -> (i64, i64) {
-        let f = Fraction { p, q };
-        (s.fraction(Rounding::Down, f), s.fraction(Rounding::Up, f))
+        both(|rounding| s.fraction(rounding, Fraction { p, q }))
     }
 
     fn told<S: OrderedScale>(s: &S) -> (i64, i64, i64) {
@@ -46,30 +41,21 @@ mod tests {
     }
 
     // Rule 12, at the division.
-    fn refuses(rt: &impl Abort, division: u32) -> Result<(), Fail> {
-        match RuledScale::new(division) {
-            Ok(_) => Err(Fail::new("the division is accepted")),
-            Err(why) => {
-                assert_eq!(rt;
-                    why.refusal(),
-                    Refusal {
-                        layer: Layer::Scale,
-                        number: 12,
-                        place: division as u64,
-                    }
-                );
-                Ok(())
-            },
-        }
+    fn refusal(division: u32) -> Refusal {
+        Refusal::new(Layer::Scale, 12, division as u64)
+    }
+
+    fn refused(division: u32) -> Option<Refusal> {
+        RuledScale::new(division).err().map(|fault| fault.refusal())
     }
 
     // ---- the ruled scale
 
     #[test]
     fn divisions(rt: HostRuntime) -> Result<(), Fail> {
-        refuses(&rt, 0)?;
-        refuses(&rt, 65537)?;
-        refuses(&rt, u32::MAX)?;
+        assert_eq!(rt; refused(0), Some(refusal(0)));
+        assert_eq!(rt; refused(65537), Some(refusal(65537)));
+        assert_eq!(rt; refused(u32::MAX), Some(refusal(u32::MAX)));
         let _first = RuledScale::new(1)?;
         let _last = RuledScale::new(65536)?;
         Ok(())

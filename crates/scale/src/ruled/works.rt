@@ -1,5 +1,5 @@
 //! What the ruled scale works out.
-ghost use Rattle.std.specs.Prelude.{◌≡◌, suc, pos, negsuc, Some, None, MatchResult};
+ghost use Rattle.std.specs.Prelude.{◌≡◌, suc, pos, negsuc, Some, None, MatchResult, IfOk, refl};
 ghost use Rattle.scale.specs.Faults.{scale_refusal, division_refusal};
 ghost use Rattle.scale.specs.Ruled.{furthest, ruled_marks, on_ruled};
 ghost use Rattle.scale.specs.Placing;
@@ -8,19 +8,19 @@ ghost use Rattle.std.proofs.Common.{arith};
 ghost use Rattle.std.proofs.lemmas.Int.{ints};
 
 use super::RuledScale;
+use crate::OrderedScale;
 use crate::faults::ScaleFault;
 use crate::marks::MarkedScale;
 use crate::rounding::Rounding;
 use crate::whole::clamped;
-use crate::{ArithmeticScale, OrderedScale, marks};
-use number::Fraction;
 
 impl RuledScale {
     /// The scale with the division, or a refusal of a division of 0 or over 65,536.
     pub fn new(division: u32) -> Result<RuledScale, ScaleFault>
-        ensures { MatchResult result (λ s. (division_refusal division ≡ None) × (s.division ≡ division)) (λ f. division_refusal division ≡ Some (scale_refusal f)) }
+        ensures refusal { MatchResult result (λ _. division_refusal division ≡ None) (λ f. division_refusal division ≡ Some (scale_refusal f)) }
+        ensures division { IfOk result (λ s. s.division ≡ division) }
     {
-        if 1 <= division && division <= 65536 {
+        if (1..=65536).contains(&division) {
             Ok(RuledScale { division })
         } else {
             Err(ScaleFault::Division(division))
@@ -31,12 +31,14 @@ impl RuledScale {
     fn limit(&self) -> i64
         ensures { result ≡ pos (furthest self.now.division) }
     {
-        2147483647 * self.division as i64
+        2147483647 * i64::from(self.division)
     }
 }
 
 impl MarkedScale for RuledScale {
     ghost marks = { ruled_marks };
+
+    ghost placed = { λ _. refl };
 
     fn parts(&self) -> u32 {
         self.division
@@ -44,29 +46,18 @@ impl MarkedScale for RuledScale {
 
     fn count(&self, code: i64) -> Option<i64> {
         let limit = self.limit();
-        if -limit <= code && code <= limit {
-            Some(code)
-        } else {
-            None
-        }
+        (-limit..=limit).contains(&code).then_some(code)
     }
 
     fn fitted(&self, rounding: Rounding, count: i128) -> i64 {
-        let limit = self.limit();
         match rounding {
-            Rounding::Down => clamped(count, -limit - 1, limit),
-            Rounding::Up => clamped(count, -limit, limit + 1),
-        }
-    }
-
-    fn infinite(&self, rounding: Rounding) -> i64 {
-        match rounding {
-            Rounding::Down => -self.limit() - 1,
-            Rounding::Up => self.limit() + 1,
+            Rounding::Down => clamped(count, self.lowest(), self.limit()),
+            Rounding::Up => clamped(count, -self.limit(), self.highest()),
         }
     }
 }
 
+// The told codes stand in each scale: one impl for all scales of marks would be no shorter, since it needs a member for the last code and laws that tie it to the marks.
 impl OrderedScale for RuledScale {
     ghost place = { on_ruled };
 
@@ -90,27 +81,5 @@ impl OrderedScale for RuledScale {
 
     fn highest(&self) -> i64 {
         self.limit() + 1
-    }
-}
-
-impl ArithmeticScale for RuledScale {
-    fn sum(&self, rounding: Rounding, a: i64, b: i64) -> i64 {
-        marks::sum(self, rounding, a, b)
-    }
-
-    fn difference(&self, rounding: Rounding, a: i64, b: i64) -> i64 {
-        marks::difference(self, rounding, a, b)
-    }
-
-    fn product(&self, rounding: Rounding, a: i64, b: i64) -> i64 {
-        marks::product(self, rounding, a, b)
-    }
-
-    fn quotient(&self, rounding: Rounding, a: i64, b: i64) -> i64 {
-        marks::divided(self, rounding, a, b)
-    }
-
-    fn fraction(&self, rounding: Rounding, f: Fraction) -> i64 {
-        marks::fraction(self, rounding, f)
     }
 }

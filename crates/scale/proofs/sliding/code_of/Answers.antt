@@ -22,4 +22,4 @@ pub returns : goal.returns
 returns c =
     let k = c.ilog2-shift.ensures in
     let f = log_found c.args.n c.ilog2-shift.result c.if-n-lt4096.false k.power_le k.next_power_gt k.bound in
-    record { not_above = f.0; next = f.1; small = f.2 }
+    rw c.from.ensures (record { not_above = f.0; next = f.1; small = f.2 })

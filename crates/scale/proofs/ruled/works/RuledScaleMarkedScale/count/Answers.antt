@@ -1,12 +1,13 @@
-use Rattle.std.proofs.Common.{arith}
+use Rattle.std.proofs.Common.{◌≡◌, ◌≤ℤ◌, MatchBool, arith, rules}
+use Rattle.std.specs.Bool.{then_some}
 use Rattle.std.proofs.lemmas.Int.{ints, to_z-of_z}
 use Rattle.scale.specs.Ruled.{ruled_marks}
-use Rattle.scale.specs.Placing.{is_number, no_number}
+use Rattle.scale.specs.Placing.{counted_within}
 use Rattle.scale.proofs.ruled.works.RuledScaleMarkedScale.count.Goals as goal
-use Rattle.scale.proofs.ruled.works.RuledScaleMarkedScale.count.Goals.{else-limit-code-via-then-limit-code+else-code-limit, else-limit-code-via-else-limit-code}
 
-pub returns-then-code-limit : goal.returns-then-code-limit
-returns-then-code-limit c = let f = c.ranges.code in simp to_z-of_z (is_number (ruled_marks c.args.self.now) c.args.code (omega (arith, ints)) (omega (arith, ints)))
-
-pub returns-else-limit-code : goal.returns-else-limit-code
-returns-else-limit-code c = no_number (ruled_marks c.args.self.now) c.args.code (λ l h. omega (arith, ints))
+pub returns : goal.returns
+returns c =
+    let m = ruled_marks c.args.self.now in
+    let w : MatchBool c.contains.result ((m.first ≤ℤ c.args.code) × (c.args.code ≤ℤ m.last)) (m.first ≤ℤ c.args.code → c.args.code ≤ℤ m.last → ⊥) = search (arith, ints, to_z-of_z) in
+    let e : c.then_some.result ≡ then_some c.contains.result c.args.code = search (rules, to_z-of_z) in
+    rw e (counted_within m c.args.code c.contains.result w)

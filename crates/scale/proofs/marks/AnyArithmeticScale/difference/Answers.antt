@@ -1,0 +1,16 @@
+use Rattle.std.proofs.Common.{◌≡◌, ◌-ℤ◌, Some, None, MatchOption, w64, SFits, arith}
+use Rattle.std.proofs.lemmas.Int.{to_z-of_z}
+use Rattle.scale.specs.Marked.{CountedBoth}
+use Rattle.scale.proofs.Counting.{difference_works}
+use Rattle.scale.proofs.marks.AnyArithmeticScale.difference.Goals as goal
+
+pub returns : goal.returns
+returns g c =
+    let s = c.args.self.now in
+    let m = g.M.MarkedScale.marks s in
+    let fa = c.ranges.a in
+    let fb = c.ranges.b in
+    let fr : SFits w64 c.rounded.result = record { sfits = c.rounded.type_inv } in
+    let k : CountedBoth m c.args.a c.args.b c.counts.result = simp to_z-of_z at c.counts.ensures in
+    let w : MatchOption c.counts.result (c.map-count.result ≡ None) (λ k. c.map-count.result ≡ Some (k.0 -ℤ k.1)) = search (arith, to_z-of_z) in
+    simp to_z-of_z (difference_works m c.args.rounding (g.M.OrderedScale.place s) (g.met.M.MarkedScale.placed s) c.args.a c.args.b c.counts.result c.map-count.result c.rounded.result k w c.rounded.ensures)
