@@ -43,6 +43,7 @@ pub enum Claim {
 }
 
 // What the operation comes to.
+// The operation is a value, and no function, since the table holds it.
 fn comes_to<S: ArithmeticScale>(scale: &S, operation: Operation, x: Range, y: Range) -> Range
     ensures { Binary (S.place scale.now) (outcomes operation) x y result }
 {
@@ -57,6 +58,7 @@ fn comes_to<S: ArithmeticScale>(scale: &S, operation: Operation, x: Range, y: Ra
 }
 
 // What the comparison comes to.
+// A value too, since the table holds it.
 fn judged<S: OrderedScale>(scale: &S, comparison: Comparison, x: Range, y: Range) -> Verdict
     ensures { Exactly (Comparisons (compared comparison) (Holds (S.place scale.now) x) (Holds (S.place scale.now) y)) result }
 {

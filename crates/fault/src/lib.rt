@@ -43,6 +43,7 @@ impl fmt::Display for Layer {
 }
 
 /// A refusal: the layer, the number of the broken rule, and the place at which it is broken.
+// the number is no enum: it is what is printed and listed, and each layer has an enum of its faults
 #[derive(Clone, Copy, PartialEq, Eq, Debug)]
 pub struct Refusal {
     pub layer: Layer,

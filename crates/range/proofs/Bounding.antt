@@ -1,5 +1,5 @@
 -- The ends of the numbers within two bounds. Assumes nothing.
-use Rattle.std.proofs.Common.{◌≡◌, ℕ, true, false, ℤ, is_some, Some, None, Option, sym, ◌∙◌, subst, arith}
+use Rattle.std.proofs.Common.{◌≡◌, Bool, true, false, not, ℤ, is_some, Some, None, Option, sym, ap, ◌∙◌, subst}
 use Rattle.number.specs.declared.Fraction.{Fraction}
 use Rattle.number.specs.Number.{Number, fraction, nought, below}
 use Rattle.number.specs.Place.{Place, −∞, at, +∞, ◌⊑◌, Inhabited, Between}
@@ -16,10 +16,10 @@ use Rattle.range.specs.Hull.{Hull, ends}
 use Rattle.range.proofs.Codes.{lowest_by, highest_by, hull_same}
 
 -- ---- which bounds admit a number
-no_value : {x : Number} (o : Option Number) → is_some o ≡ false → o ≡ Some x → ⊥
-no_value o e f = let z : ◌≡◌ {A = ℕ} 0 1 = cc in omega arith
+unturned : {a b : Bool} → not a ≡ b → a ≡ not b
+unturned {a} {b} e = elim a as (λ v. not v ≡ b → v ≡ not b) [ true ↦ λ h. ap not h | false ↦ λ h. ap not h ] e
 
-valued : (f : Fraction) → is_some (value f) ≡ true → (x : Number) × (value f ≡ Some x)
+pub valued : (f : Fraction) → is_some (value f) ≡ true → (x : Number) × (value f ≡ Some x)
 valued f e = let v = value_some f.p f.q e in (fraction f.p f.q v.0, v.2)
 
 module _ (f : Fraction) where
@@ -29,27 +29,21 @@ module _ (f : Fraction) where
   pub high_admits : is_some (value f) ≡ true → Inhabited (Within None (Some f))
   high_admits e = let v = valued f e in (v.0, (tt, (v.0, v.1, ≼_refl)))
 
-  pub low_none : is_some (value f) ≡ false → (x : Number) → NotBelow (Some f) x → ⊥
-  low_none e x h = no_value (value f) e h.1
-
-  pub high_none : is_some (value f) ≡ false → (x : Number) → NotAbove (Some f) x → ⊥
-  high_none e x h = no_value (value f) e h.1
-
 pub free_admits : Inhabited (Within None None)
 free_admits = (nought, (tt, tt))
 
 module _ (f g : Fraction) where
-  pub both_admit : is_some (value f) ≡ true → is_some (value g) ≡ true → higher (value f) (value g) ≡ false → Inhabited (Within (Some f) (Some g))
+  pub both_admit : is_some (value f) ≡ true → is_some (value g) ≡ true → not (higher (value f) (value g)) ≡ true → Inhabited (Within (Some f) (Some g))
   both_admit e h n =
       let v = valued f e in
       let w = valued g h in
-      let k : below w.0 v.0 ≡ false = (λ i. higher (sym v.1 i) (sym w.1 i)) ∙ n in
-      (v.0, ((v.0, v.1, ≼_refl), (w.0, w.1, below_false k)))
+      let k : not (below w.0 v.0) ≡ true = (λ i. not (higher (sym v.1 i) (sym w.1 i))) ∙ n in
+      (v.0, ((v.0, v.1, ≼_refl), (w.0, w.1, below_false (unturned k))))
 
-  pub crossed : higher (value f) (value g) ≡ true → (x : Number) → Within (Some f) (Some g) x → ⊥
+  pub crossed : not (higher (value f) (value g)) ≡ false → (x : Number) → Within (Some f) (Some g) x → ⊥
   crossed a x h =
-      let k : below h.1.0 h.0.0 ≡ true = (λ i. higher (sym h.0.1 i) (sym h.1.1 i)) ∙ a in
-      ≺_not_≼ (below_true k) (≼_trans h.0.2 h.1.2)
+      let k : not (below h.1.0 h.0.0) ≡ false = (λ i. not (higher (sym h.0.1 i) (sym h.1.1 i))) ∙ a in
+      ≺_not_≼ (below_true (unturned k)) (≼_trans h.0.2 h.1.2)
 
 -- ---- the range of the bounds
 lower_place : Option Number → Place

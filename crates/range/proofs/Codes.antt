@@ -38,6 +38,11 @@ module _ {p : ℤ → Place} {S R : Number → Type 0} (f : (x : Number) → S x
       (record { code = l.code; bound = λ y k. l.bound y (g y k); greatest = λ d k b. l.greatest d k (λ y s. b y (f y s)) })
       (record { code = u.code; bound = λ y k. u.bound y (g y k); least = λ d k b. u.least d k (λ y s. b y (f y s)) })
 
+-- ---- the hull of what a range holds, by the ends of the range
+module _ {p : ℤ → Place} {q : Range} {a b : ℤ} where
+  pub by_ends : q.lower ≡ a → q.upper ≡ b → {r : Range} → Hull p (Holds p q) r → Hull p (Holds p (record { lower = a; upper = b })) r
+  by_ends e f {r} h = let g : ◌≡◌ {A = Range} q (record { lower = a; upper = b }) = λ i. record { lower = e i; upper = f i } in subst (λ s. Hull p (Holds p s) r) g h
+
 -- ---- a hull is alone
 module _ {p : ℤ → Place} {S : Number → Type 0} where
   pub lowest_alone : {c d : ℤ} → Lowest p S c → Lowest p S d → c ≡ d
@@ -101,6 +106,9 @@ module _ {p : ℤ → Place} (O : Ordered p) where
 
     -- ---- which ranges hold a number
     module _ (r : Range) (C : Codes r) where
+      pub held_ends : (x : Number) → Holds p r x → (r.lower <ℤ high) × (low <ℤ r.upper) × (r.lower ≤ℤ r.upper)
+      held_ends x h = (below_high C.lower_code h.0, above_low C.upper_code h.1, in_order r C x h)
+
       pub holding : r.lower <ℤ high → low <ℤ r.upper → r.lower ≤ℤ r.upper → Inhabited (Holds p r)
       holding l u o = (range_inhabited (p r.lower) (p r.upper)).1 (O.monotone r.lower r.upper C.lower_code C.upper_code o, not_high C.lower_code l, not_low C.upper_code u)
 
@@ -150,14 +158,10 @@ module _ {p : ℤ → Place} (O : Ordered p) where
         by −∞ e = absurd (not_low f l (subst (λ q. q ⊑ −∞) (sym e) ⊑_refl))
 
     -- the hull of what a range holds
-    pub range_hull : (r : Range) → Codes r → (x : Number) → Holds p r x → (q : Range) → q ≡ record { lower = int_max low r.lower; upper = int_min high r.upper } → Hull p (Holds p r) q
-    range_hull r C x h q e = subst (λ s. Hull p (Holds p r) s) (sym e) (ends x h
-        (lowest_by (range_inf (x, h)) (floor_place C.lower_code (below_high C.lower_code h.0)))
-        (highest_by (range_sup (x, h)) (ceiling_place C.upper_code (above_low C.upper_code h.1))))
-
-    -- the same, of two codes
     pub copied_hull : (r : Range) → Codes r → (x : Number) → Holds p r x → (a b : ℤ) → a ≡ int_max low r.lower → b ≡ int_min high r.upper → Hull p (Holds p r) (record { lower = a; upper = b })
-    copied_hull r C x h a b e f = range_hull r C x h _ (λ i. record { lower = e i; upper = f i })
+    copied_hull r C x h a b e f = ends x h
+        (lowest_by (range_inf (x, h)) (subst (λ c. Floor p (p r.lower) c) (sym e) (floor_place C.lower_code (below_high C.lower_code h.0))))
+        (highest_by (range_sup (x, h)) (subst (λ c. Ceiling p (p r.upper) c) (sym f) (ceiling_place C.upper_code (above_low C.upper_code h.1))))
 
     -- the hull of what a hull holds is itself
     pub hull_again : {S : Number → Type 0} {r : Range} → Hull p S r → Hull p (Holds p r) r

@@ -16,7 +16,7 @@ use Rattle.range.specs.Held.{Holds}
 use Rattle.range.specs.Hull.{Hull}
 use Rattle.range.specs.Outcomes.{Lesser, Greater, Either, Both}
 use Rattle.range.specs.Truths.{allowed, Exactly, Comparisons, Less, IsAtMost, Equal}
-use Rattle.range.proofs.Codes.{Codes, code_alone}
+use Rattle.range.proofs.Codes.{Codes, code_alone, hull_same}
 use Rattle.range.proofs.Ordering.{some_at_most, at_most_ends, some_below, below_ends, some_same, hull_bounds, lower_either, upper_either, lower_lesser, upper_lesser, lower_greater, upper_greater, lesser_swap, greater_swap}
 
 -- ---- a verdict from two tests
@@ -38,6 +38,14 @@ exactly_by S v {t} {f} e g h k = record { sound = λ b s. sound b s; tight = λ 
 -- no truth occurs where an operand has no member
 pub exactly_none : (T : Bool → Type 0) (v : Verdict) → ((b : Bool) → allowed v b ≡ false) → ((b : Bool) → T b → ⊥) → Exactly T v
 exactly_none S v e n = record { sound = λ b s. absurd (n b s); tight = λ b s. absurd (subst T (e b) s) }
+
+-- ---- joins with a blank operand
+module _ {p : ℤ → Place} {X Y : Number → Type 0} {r : Range} where
+  pub join_first : ((z : Number) → Y z → ⊥) → Hull p X r → Hull p (Either X Y) r
+  join_first n = hull_same (λ z h. inl h) (λ z h. ⊎_elim (λ k. k) (λ k. absurd (n z k)) h)
+
+  pub join_second : ((z : Number) → X z → ⊥) → Hull p Y r → Hull p (Either X Y) r
+  join_second n = hull_same (λ z h. inr h) (λ z h. ⊎_elim (λ k. absurd (n z k)) (λ k. k) h)
 
 module _ {p : ℤ → Place} (O : Ordered p) where
   -- ---- the lesser and the greater of two codes
@@ -85,14 +93,20 @@ module _ {p : ℤ → Place} (O : Ordered p) where
     Y = Holds p y
 
     -- ---- meet needs no member
-    pub meet_to : (z : Number) → Holds p (record { lower = int_max x.lower y.lower; upper = int_min x.upper y.upper }) z → Both (Holds p x) (Holds p y) z
+    abbrev meet : Range
+    meet = record { lower = int_max x.lower y.lower; upper = int_min x.upper y.upper }
+
+    meet_to : (z : Number) → Holds p meet z → Both (Holds p x) (Holds p y) z
     meet_to z h =
         let l = (max_place C.lower_code D.lower_code (at z)).0 h.0 in
         let u = (min_place C.upper_code D.upper_code (at z)).0 h.1 in
         ((l.0, u.0), (l.1, u.1))
 
-    pub meet_from : (z : Number) → Both (Holds p x) (Holds p y) z → Holds p (record { lower = int_max x.lower y.lower; upper = int_min x.upper y.upper }) z
+    meet_from : (z : Number) → Both (Holds p x) (Holds p y) z → Holds p meet z
     meet_from z h = ((max_place C.lower_code D.lower_code (at z)).1 (h.0.0, h.1.0), (min_place C.upper_code D.upper_code (at z)).1 (h.0.1, h.1.1))
+
+    pub meet_hull : {r : Range} → Hull p (Holds p meet) r → Hull p (Both (Holds p x) (Holds p y)) r
+    meet_hull = hull_same meet_to meet_from
 
     module _ (s : Inhabited (Holds p x)) (t : Inhabited (Holds p y)) where
       lows : (q : Place) → (q ⊑ p (int_min x.lower y.lower)) ↔ (IsLowerBound q X × IsLowerBound q Y)

@@ -2,7 +2,7 @@
 use Rattle.std.proofs.Common.{◌≡◌, ℕ, zero, suc, ◌<◌, ◌⊎◌, ◌↔◌, ℤ, pos, negsuc, neg_ℤ, ◌≤ℤ◌, ◌<ℤ◌, Some, sym, refl, ap, ◌∙◌, subst, inl, inr, ⊎_elim, arith}
 use borrow.Author.Differences.{ints}
 use Rattle.std.proofs.lemmas.Int.{by_lt_z}
-use Rattle.number.specs.Number.{Number, fraction, nought, times, reciprocal, over}
+use Rattle.number.specs.Number.{Number, fraction, nought, reciprocal, over}
 use Rattle.number.specs.Place.{Place, −∞, at, +∞, ◌⊑◌, opp}
 use Rattle.number.specs.Ends.{far, far⁻, ◌⊙◌, recip_of}
 use Rattle.number.proofs.Fractions.{⟨◌⟩, ≼_in, ≼_out, ≃-≼, ≃-≽, ≃_trans, times_comm, times_nought}
@@ -10,7 +10,7 @@ use Rattle.number.proofs.Places.{−∞_least, +∞_greatest, at_⊑, ⊑_refl, 
 use Rattle.scale.specs.declared.rounding.Rounding.{Rounding}
 use Rattle.scale.specs.declared.rounding.Rounding.TheVariants.{Down, Up}
 use Rattle.scale.specs.Scale.{Code, Ordered, Told}
-use Rattle.scale.specs.Rounded.{Rounded, divided, product_of, quotient_of, Product, Quotient}
+use Rattle.scale.specs.Rounded.{Rounded, divided, quotient_of, Quotient}
 use Rattle.range.specs.declared.corner.Sign.{Sign}
 use Rattle.range.specs.declared.corner.Sign.TheVariants.{Negative, Zero, Positive}
 use Rattle.range.specs.declared.corner.Side.{Side}
@@ -140,9 +140,6 @@ divisor s y = by s y.top y.bottom y.positive
 
 -- ---- the corners
 module _ (p : ℤ → Place) (r : Rounding) (a b c : ℤ) where
-  pub product_numbers : {x y : Number} → p a ≡ at x → p b ≡ at y → Product p r a b c → Corner p r (p a ⊙ p b) c
-  product_numbers {x} {y} e f h = subst (λ q. Corner p r q c) (sym (λ i. e i ⊙ f i)) (corner_number p c r (times x y) (subst (λ o. Rounded p r o c) (λ i. product_of (e i) (f i)) h))
-
   pub product_signs : Infinite (p a) ⊎ Infinite (p b) → Corner p r (utmost (sign_product (sign_of_place (p a)) (sign_of_place (p b)))) c → Corner p r (p a ⊙ p b) c
   product_signs n h = subst (λ q. Corner p r q c) (sym (by_signs (p a) (p b) n)) h
 

@@ -1,6 +1,6 @@
 -- Hulls of sums, differences, products and quotients. Assumes nothing.
 -- The lower end, rounded down, and the upper end, rounded up, are one text: what is lower for Down is higher for Up.
-use Rattle.std.proofs.Common.{◌≡◌, ◌⊎◌, ◌↔◌, ℤ, ◌≤ℤ◌, Some, sym, refl, ap, ◌∙◌, subst, inl, inr, ⊎_elim, arith}
+use Rattle.std.proofs.Common.{◌≡◌, ◌⊎◌, ◌↔◌, ℤ, ◌≤ℤ◌, true, is_some, Some, sym, refl, ap, ◌∙◌, subst, inl, inr, ⊎_elim, arith}
 use borrow.Author.Differences.{ints}
 use Rattle.std.proofs.lemmas.Int.{clamps, by_lt_z}
 use Rattle.number.specs.Number.{Number, ◌≃◌, nought, neg, minus}
@@ -11,6 +11,7 @@ use Rattle.number.specs.Fraction.{value}
 use Rattle.number.proofs.Fractions.{≼_antisym, ≃_refl, ≃_sym, ≃_trans, ≃-≼, ≃-≽, ≺_not_≃, ≄-≺, minus_≃, plus_nought}
 use Rattle.number.proofs.Places.{at_⊑, ⊑_at, ⊑_refl, ⊑_trans, opp_⊑}
 use Rattle.number.proofs.Ends.{sum_ends, difference_ends, product_ends}
+use Rattle.number.proofs.Ranges.{range_positive, range_negative}
 use Rattle.number.proofs.Quotients.{quotient_ends⁺, quotient_ends⁻}
 use Rattle.scale.specs.declared.rounding.Rounding.{Rounding}
 use Rattle.scale.specs.declared.rounding.Rounding.TheVariants.{Down, Up}
@@ -22,9 +23,10 @@ use Rattle.range.specs.declared.range.Range.{Range}
 use Rattle.range.specs.Held.{Holds}
 use Rattle.range.specs.Hull.{Lowest, Highest, Hull, blank, ends}
 use Rattle.range.specs.Outcomes.{Constant, Negations, Either, Quotients⁻, Quotients⁺}
-use Rattle.range.specs.Corner.{Corner, End, outer, part, recip, QuotientsOn}
+use Rattle.range.specs.Corner.{Corner, End, outer, Outermost, Facing, end_towards, part, recip, QuotientsOn}
 use Rattle.range.specs.Worked.{BinaryEnd}
-use Rattle.range.proofs.Codes.{lowest_by, highest_by, hull_same, nothing_holds}
+use Rattle.range.proofs.Bounding.{valued}
+use Rattle.range.proofs.Codes.{Codes, lowest_by, highest_by, hull_same, nothing_holds}
 
 -- ---- by either rounding
 -- lower for Down, higher for Up
@@ -99,23 +101,22 @@ module _ {p : ℤ → Place} (O : Ordered p) where
         two : (t q s : Place) → Beyond r q s → Beyond r s (t ⊙ c) × Beyond r s (t ⊙ d) → Beyond r q (t ⊙ c) × Beyond r q (t ⊙ d)
         two t q s h k = (one (t ⊙ c) q s h k.0, one (t ⊙ d) q s h k.1)
 
-  module _ (r : Rounding) (x y : Range) where
-    pub product_end : (k l m n : ℤ) →
-        Corner p r (p x.lower ⊙ p y.lower) k → Corner p r (p x.lower ⊙ p y.upper) l → Corner p r (p x.upper ⊙ p y.lower) m → Corner p r (p x.upper ⊙ p y.upper) n →
-        BinaryEnd p r Products x y (outer r (outer r k l) (outer r m n))
-    product_end k l m n f g h i o =
-        corners_end r (p x.lower) (p x.upper) (p y.lower) (p y.upper) (Products (Holds p x) (Holds p y)) (by (o.1.0, o.1.2) (o.1.1, o.1.3) r) k l m n f g h i
+  -- C gives the corners of any two codes
+  module _ (r : Rounding) (x y : Range) (X : Codes x) (Y : Codes y) {C : ℤ → ℤ → ℤ → Type 0} {k : ℤ} (u : Outermost C r x y k) where
+    pub product_end : ((a b c : ℤ) → Code a → Code b → C a b c → Corner p r (p a ⊙ p b) c) → BinaryEnd p r Products x y k
+    product_end f o =
+        subst (λ c. End p r (Products (Holds p x) (Holds p y)) c) (sym u.outermost) (corners_end r (p x.lower) (p x.upper) (p y.lower) (p y.upper) (Products (Holds p x) (Holds p y)) (by (o.1.0, o.1.2) (o.1.1, o.1.3) r) u.k u.l u.m u.n
+        (f _ _ _ X.lower_code Y.lower_code u.lower_lower) (f _ _ _ X.lower_code Y.upper_code u.lower_upper) (f _ _ _ X.upper_code Y.lower_code u.upper_lower) (f _ _ _ X.upper_code Y.upper_code u.upper_upper))
       where
         by : Inhabited (Holds p x) → Inhabited (Holds p y) → (r : Rounding) (q : Place) → Bound r q (Products (Holds p x) (Holds p y)) ↔ ByCorners r q (p x.lower) (p x.upper) (p y.lower) (p y.upper)
         by sx sy Down q = (product_ends (p x.lower) (p x.upper) (p y.lower) (p y.upper) sx sy q).0
         by sx sy Up q = (product_ends (p x.lower) (p x.upper) (p y.lower) (p y.upper) sx sy q).1
 
     -- one over the upper end is the lower one
-    pub quotient_end : (s : Side) (k l m n : ℤ) →
-        Corner p r (p x.lower ⊙ recip s (p y.upper)) k → Corner p r (p x.lower ⊙ recip s (p y.lower)) l → Corner p r (p x.upper ⊙ recip s (p y.upper)) m → Corner p r (p x.upper ⊙ recip s (p y.lower)) n →
-        BinaryEnd p r (QuotientsOn s) x y (outer r (outer r k l) (outer r m n))
-    quotient_end s k l m n f g h i o =
-        corners_end r (p x.lower) (p x.upper) (recip s (p y.upper)) (recip s (p y.lower)) (QuotientsOn s (Holds p x) (Holds p y)) (by s (o.1.0, o.1.2) (o.1.1, o.1.3) r) k l m n f g h i
+    pub quotient_end : (s : Side) → ((a b c : ℤ) → Code a → Code b → C a b c → Corner p r (p a ⊙ recip s (p b)) c) → BinaryEnd p r (QuotientsOn s) x y k
+    quotient_end s f o =
+        subst (λ c. End p r (QuotientsOn s (Holds p x) (Holds p y)) c) (sym u.outermost) (corners_end r (p x.lower) (p x.upper) (recip s (p y.lower)) (recip s (p y.upper)) (QuotientsOn s (Holds p x) (Holds p y)) (λ q. swap (by s (o.1.0, o.1.2) (o.1.1, o.1.3) r q)) u.k u.l u.m u.n
+        (f _ _ _ X.lower_code Y.lower_code u.lower_lower) (f _ _ _ X.lower_code Y.upper_code u.lower_upper) (f _ _ _ X.upper_code Y.lower_code u.upper_lower) (f _ _ _ X.upper_code Y.upper_code u.upper_upper))
       where
         by : (s : Side) → Inhabited (Holds p x) → Inhabited (part s (Holds p y)) → (r : Rounding) (q : Place) → Bound r q (QuotientsOn s (Holds p x) (Holds p y)) ↔ ByCorners r q (p x.lower) (p x.upper) (recip s (p y.upper)) (recip s (p y.lower))
         by Below sx sy Down q = (quotient_ends⁻ (p x.lower) (p x.upper) (p y.lower) (p y.upper) sx sy q).0
@@ -123,13 +124,32 @@ module _ {p : ℤ → Place} (O : Ordered p) where
         by Above sx sy Down q = (quotient_ends⁺ (p x.lower) (p x.upper) (p y.lower) (p y.upper) sx sy q).0
         by Above sx sy Up q = (quotient_ends⁺ (p x.lower) (p x.upper) (p y.lower) (p y.upper) sx sy q).1
 
+        swap : {A : Type 0} {B C D E : Type 0} → A ↔ (B × C × D × E) → A ↔ (C × B × E × D)
+        swap e = (λ a. let u = e.0 a in (u.1, u.0, u.3, u.2), λ u. e.1 (u.1, u.0, u.3, u.2))
+
+-- ---- whether a range has a number on a side of 0
+module _ (p : ℤ → Place) (s : Side) (y : Range) where
+  pub reached : Inhabited (Holds p y) → Facing s (p (end_towards s y)) → Inhabited (part s (Holds p y))
+  reached = by s
+    where
+      by : (s : Side) → Inhabited (Holds p y) → Facing s (p (end_towards s y)) → Inhabited (part s (Holds p y))
+      by Below h k = (range_negative (p y.lower) (p y.upper)).1 (h, k)
+      by Above h k = (range_positive (p y.lower) (p y.upper)).1 (h, k)
+
+  pub not_reached : ¬ (Facing s (p (end_towards s y))) → (z : Number) → part s (Holds p y) z → ⊥
+  not_reached = by s
+    where
+      by : (s : Side) → ¬ (Facing s (p (end_towards s y))) → (z : Number) → part s (Holds p y) z → ⊥
+      by Below n z h = n ((range_negative (p y.lower) (p y.upper)).0 (z, h)).1
+      by Above n z h = n ((range_positive (p y.lower) (p y.upper)).0 (z, h)).1
+
 -- ---- outcomes by their two ends
 outcome : {f : Number → Number → Number} {X Y : Number → Type 0} → Inhabited X → Inhabited Y → Inhabited (Outcomes f X Y)
 outcome {f} s t = (f s.0 t.0, (s.0, t.0, s.1, t.1, ≃_refl))
 
-pub outcome_hull : (p : ℤ → Place) (f : Number → Number → Number) (X Y : Number → Type 0) → Inhabited X → Inhabited Y → (c d : ℤ) →
+pub outcome_hull : {p : ℤ → Place} {f : Number → Number → Number} {X Y : Number → Type 0} → Inhabited X → Inhabited Y → {c d : ℤ} →
     (Inhabited (Outcomes f X Y) → Lowest p (Outcomes f X Y) c) → (Inhabited (Outcomes f X Y) → Highest p (Outcomes f X Y) d) → Hull p (Outcomes f X Y) (record { lower = c; upper = d })
-outcome_hull p f X Y s t c d l u = let o = outcome s t in ends o.0 o.1 (l o) (u o)
+outcome_hull s t l u = let o = outcome s t in ends o.0 o.1 (l o) (u o)
 
 -- ---- sums and differences
 difference_is : (u v : Place) → difference_of u v ≡ sum_of u (opp v)
@@ -196,13 +216,19 @@ module _ (p : ℤ → Place) where
             (n, o.0, (subst (λ q. q ⊑ at n) (sym low_is) ⊑_refl, subst (λ q. at n ⊑ q) (sym high_is) ⊑_refl), o.1, ≃_trans (less n o.0 T.origin_zero.nil) o.2)
 
   -- ---- the value of a fraction is both its ends
-  pub constant_hull : (f : Fraction) (x : Number) → value f ≡ Some x → (c d : ℤ) → Written p Down f c → Written p Up f d → Hull p (Constant f) (record { lower = c; upper = d })
-  constant_hull f x e c d h k = ends_hull (x, (x, e, ≃_refl))
+  pub constant_hull : (f : Fraction) → is_some (value f) ≡ true → (c d : ℤ) → Written p Down f c → Written p Up f d → Hull p (Constant f) (record { lower = c; upper = d })
+  constant_hull f v c d h k = ends_hull (x, (x, e, ≃_refl))
       (record { inf = λ q. (λ b. b x (x, e, ≃_refl), λ b y m. ⊑_trans b (same y m).0) }, record { sup = λ q. (λ b. b x (x, e, ≃_refl), λ b y m. ⊑_trans (same y m).1 b) })
       (subst (λ o. Rounded p Down o c) e h) (subst (λ o. Rounded p Up o d) e k)
     where
+      x : Number
+      x = (valued f v).0
+
+      e : value f ≡ Some x
+      e = (valued f v).1
+
       same : (y : Number) → Constant f y → (at x ⊑ at y) × (at y ⊑ at x)
-      same y m = let s : m.0 ≡ x = cc in let t : x ≃ y = subst (λ w. w ≃ y) s m.2 in (at_⊑ (≃-≼ t), at_⊑ (≃-≽ t))
+      same y m = let s : m.0 ≡ x = cc (e) in let t : x ≃ y = subst (λ w. w ≃ y) s m.2 in (at_⊑ (≃-≼ t), at_⊑ (≃-≽ t))
 
 -- ---- what a hull tells of its set
 module _ {p : ℤ → Place} {S : Number → Type 0} {m : Range} where

@@ -3,7 +3,7 @@
 --     End p r S c         c is the lower end of the hull of S, or the upper one: the end that is rounded so
 --     sign_of_place       on which side of 0 a place stands
 --     utmost              the infinity on a side of 0, and 0 itself
-use Rattle.std.specs.Prelude.{zero, suc, ℤ, pos, negsuc}
+use Rattle.std.specs.Prelude.{◌≡◌, zero, suc, ℤ, pos, negsuc}
 use Rattle.std.specs.Int.{int_min, int_max}
 use Rattle.number.specs.Number.{Number, nought, over}
 use Rattle.number.specs.Place.{Place, −∞, at, +∞, ◌⊑◌, Set, Outcomes, PositivePart, NegativePart}
@@ -15,6 +15,7 @@ use Rattle.range.specs.declared.corner.Sign.{Sign}
 use Rattle.range.specs.declared.corner.Sign.TheVariants.{Negative, Zero, Positive}
 use Rattle.range.specs.declared.corner.Side.{Side}
 use Rattle.range.specs.declared.corner.Side.TheVariants.{Below, Above}
+use Rattle.range.specs.declared.range.Range.{Range}
 use Rattle.range.specs.Hull.{Lowest, Highest}
 
 abbrev pub Corner : (ℤ → Place) → Rounding → Place → ℤ → Type 0
@@ -29,6 +30,18 @@ End p Up S c = Highest p S c
 abbrev pub outer : Rounding → ℤ → ℤ → ℤ
 outer Down = int_min
 outer Up = int_max
+
+-- the outermost of what C gives of each end of x with each end of y
+pub record Outermost (C : ℤ → ℤ → ℤ → Type 0) (r : Rounding) (x y : Range) (c : ℤ) : Type 0 where
+  pub k : ℤ
+  pub l : ℤ
+  pub m : ℤ
+  pub n : ℤ
+  pub lower_lower : C x.lower y.lower k
+  pub lower_upper : C x.lower y.upper l
+  pub upper_lower : C x.upper y.lower m
+  pub upper_upper : C x.upper y.upper n
+  pub outermost : c ≡ outer r (outer r k l) (outer r m n)
 
 -- ---- signs
 abbrev pub sign_of_top : ℤ → Sign
@@ -57,6 +70,11 @@ utmost Positive = +∞
 abbrev pub sign_of_side : Side → Sign
 sign_of_side Below = Negative
 sign_of_side Above = Positive
+
+-- the end of a range towards that side
+abbrev pub end_towards : Side → Range → ℤ
+end_towards Below r = r.lower
+end_towards Above r = r.upper
 
 -- the place is on that side
 abbrev pub Facing : Side → Place → Type 0

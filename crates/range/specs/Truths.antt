@@ -1,5 +1,5 @@
--- Verdicts as sets of truths, and the truths of comparisons and of connectives. Assumes nothing.
-use Rattle.std.specs.Prelude.{◌≡◌, Bool, true, false, not, T}
+-- Verdicts as sets of truths, their names, and the truths of comparisons and of connectives. Assumes nothing.
+use Rattle.std.specs.Prelude.{◌≡◌, ℕ, List, Bool, true, false, not, T, codes}
 use Rattle.number.specs.Number.{Number, ◌≼◌, ◌≺◌, ◌≃◌}
 use Rattle.range.specs.declared.verdict.Verdict.{Verdict}
 use Rattle.range.specs.declared.verdict.Verdict.TheVariants.{Certain, Impossible, Open, Void}
@@ -13,6 +13,13 @@ allowed Void b = false
 
 abbrev pub Allows : Verdict → Bool → Type 0
 Allows v b = T (allowed v b)
+
+-- as it is printed
+abbrev pub verdict_name : Verdict → List ℕ
+verdict_name Certain = codes "certain"
+verdict_name Impossible = codes "impossible"
+verdict_name Open = codes "open"
+verdict_name Void = codes "void"
 
 -- the verdict allows exactly the truths that occur
 pub record Exactly (T : Bool → Type 0) (v : Verdict) : Type 0 where

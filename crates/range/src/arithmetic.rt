@@ -1,4 +1,6 @@
 //! Arithmetic on ranges: the hull of what an operation comes to, over every choice of members.
+//!
+//! A scale and the operands are parameters, as `sum(scale, x, y)` reads; a struct of the three would be made for each call and taken apart in it.
 ghost use Rattle.std.specs.Prelude.{◌≡◌, true, false};
 ghost use Rattle.number.specs.Number.{Number};
 ghost use Rattle.number.specs.Place.{Inhabited, Sums, Differences, Products, Quotients};
@@ -10,7 +12,7 @@ ghost use Rattle.range.specs.Worked.{Unary, Binary, BinaryEnd};
 
 use crate::corner::{Side, outermost, product_corner, quotient_corner};
 use crate::order::join;
-use crate::range::Range;
+use crate::range::{Range, any_blank};
 use number::Fraction;
 use scale::{ArithmeticScale, OrderedScale, Rounding};
 
@@ -35,14 +37,6 @@ pub fn negation<S: ArithmeticScale>(scale: &S, y: Range) -> Range
     difference(scale, Range::new(zero, zero), y)
 }
 
-// Whether a range is blank, so that nothing comes of the two.
-fn any_blank<S: OrderedScale>(scale: &S, x: Range, y: Range) -> bool
-    ensures empty { result ≡ true → (u v : Number) → Holds (S.place scale.now) x u → Holds (S.place scale.now) y v → ⊥ }
-    ensures some { result ≡ false → Inhabited (Holds (S.place scale.now) x) × Inhabited (Holds (S.place scale.now) y) }
-{
-    x.is_blank(scale) || y.is_blank(scale)
-}
-
 /// x + y.
 pub fn sum<S: ArithmeticScale>(scale: &S, x: Range, y: Range) -> Range
     ensures { Binary (S.place scale.now) Sums x y result }
@@ -56,6 +50,7 @@ pub fn sum<S: ArithmeticScale>(scale: &S, x: Range, y: Range) -> Range
     }
 }
 
+// `sum` and `difference` differ in the method and in which ends meet: a function of both would need a contract longer than theirs
 /// x - y.
 pub fn difference<S: ArithmeticScale>(scale: &S, x: Range, y: Range) -> Range
     ensures { Binary (S.place scale.now) Differences x y result }
@@ -73,13 +68,9 @@ pub fn difference<S: ArithmeticScale>(scale: &S, x: Range, y: Range) -> Range
 fn product_end<S: ArithmeticScale>(scale: &S, rounding: Rounding, x: Range, y: Range) -> i64
     ensures { BinaryEnd (S.place scale.now) rounding Products x y result }
 {
-    outermost(
-        rounding,
-        product_corner(scale, rounding, x.lower, y.lower),
-        product_corner(scale, rounding, x.lower, y.upper),
-        product_corner(scale, rounding, x.upper, y.lower),
-        product_corner(scale, rounding, x.upper, y.upper),
-    )
+    outermost(rounding, x, y, |a, b| {
+        product_corner(scale, rounding, a, b)
+    })
 }
 
 /// x y.
@@ -107,13 +98,7 @@ fn reaches<S: OrderedScale>(scale: &S, side: Side, y: Range) -> bool
     ensures some { result ≡ true → Inhabited (part side (Holds (S.place scale.now) y)) }
     ensures empty { result ≡ false → (z : Number) → part side (Holds (S.place scale.now) y) z → ⊥ }
 {
-    if y.is_blank(scale) {
-        return false;
-    }
-    match side {
-        Side::Below => side.has(scale, y.lower),
-        Side::Above => side.has(scale, y.upper),
-    }
+    !y.is_blank(scale) && side.has(scale, side.end(y))
 }
 
 // The lower end of x / y, rounded down, or the upper one, rounded up, for y on one side of 0.
@@ -126,13 +111,9 @@ fn quotient_end<S: ArithmeticScale>(
 ) -> i64
     ensures { BinaryEnd (S.place scale.now) rounding (QuotientsOn side) x y result }
 {
-    outermost(
-        rounding,
-        quotient_corner(scale, rounding, side, x.lower, y.upper),
-        quotient_corner(scale, rounding, side, x.lower, y.lower),
-        quotient_corner(scale, rounding, side, x.upper, y.upper),
-        quotient_corner(scale, rounding, side, x.upper, y.lower),
-    )
+    outermost(rounding, x, y, |a, b| {
+        quotient_corner(scale, rounding, side, a, b)
+    })
 }
 
 // x / y for y on one side of 0.

@@ -3,11 +3,12 @@ ghost use Rattle.std.specs.Prelude.{◌≡◌, true, false, ◌≢◌};
 ghost use Rattle.number.specs.Number.{Number};
 ghost use Rattle.number.specs.Place.{at};
 ghost use Rattle.number.specs.Ends.{◌⊙◌};
-ghost use Rattle.range.specs.Corner.{Corner, outer, sign_of_place, sign_of_side, sign_product, utmost, Facing, recip};
+ghost use Rattle.range.specs.Corner.{Corner, outer, Outermost, sign_of_place, sign_of_side, end_towards, sign_product, utmost, Facing, recip};
 
+use crate::range::Range;
 use scale::{ArithmeticScale, OrderedScale, Rounding};
 
-// Where a place stands, as seen from 0.
+// Where a place stands, as seen from 0. Unlike an `Ordering` it has products.
 #[derive(Clone, Copy)]
 pub(crate) enum Sign {
     Negative,
@@ -45,6 +46,16 @@ impl Side {
         }
     }
 
+    // The end of a range towards this side.
+    pub(crate) fn end(self, r: Range) -> i64
+        ensures { result ≡ end_towards self r }
+    {
+        match self {
+            Side::Below => r.lower,
+            Side::Above => r.upper,
+        }
+    }
+
     // Whether the code's place is on this side of 0.
     pub(crate) fn has<S: OrderedScale>(self, scale: &S, code: i64) -> bool
         ensures yes { result ≡ true → Facing self (S.place scale.now code) }
@@ -78,6 +89,7 @@ fn is_number<S: OrderedScale>(scale: &S, code: i64) -> bool
     scale.lowest() < code && code < scale.highest()
 }
 
+// Here the rounding goes beside the scale, as in the methods of a scale: a struct of the two would only be taken apart again at each of their calls.
 // A corner at an infinity or at 0. No code is above plus infinity, so that rounded down it is the last code of all; and so for minus infinity.
 fn end<S: OrderedScale>(scale: &S, rounding: Rounding, sign: Sign) -> i64
     ensures { Corner (S.place scale.now) rounding (utmost sign) result }
@@ -129,12 +141,29 @@ pub(crate) fn quotient_corner<S: ArithmeticScale>(
     end(scale, rounding, sign_of(scale, a).times(side.sign()))
 }
 
-// The outermost of four codes: the least where lower ends are rounded down, the greatest where upper ends are rounded up.
-pub(crate) fn outermost(rounding: Rounding, a: i64, b: i64, c: i64, d: i64) -> i64
-    ensures { result ≡ outer rounding (outer rounding a b) (outer rounding c d) }
+// The outer one of two codes: the lesser where lower ends are rounded down, the greater where upper ends are rounded up.
+fn outer(rounding: Rounding, a: i64, b: i64) -> i64
+    ensures { result ≡ outer rounding a b }
 {
     match rounding {
-        Rounding::Down => a.min(b).min(c.min(d)),
-        Rounding::Up => a.max(b).max(c.max(d)),
+        Rounding::Down => a.min(b),
+        Rounding::Up => a.max(b),
     }
+}
+
+// The outermost of the four corners of two ranges.
+pub(crate) fn outermost<F: Fn(i64, i64) -> i64>(
+    rounding: Rounding,
+    x: Range,
+    y: Range,
+    corner: F,
+) -> i64
+    requires { F.IsAlwaysCallable corner }
+    ensures { Outermost (F.post corner) rounding x y result }
+{
+    outer(
+        rounding,
+        outer(rounding, corner(x.lower, y.lower), corner(x.lower, y.upper)),
+        outer(rounding, corner(x.upper, y.lower), corner(x.upper, y.upper)),
+    )
 }

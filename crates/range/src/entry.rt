@@ -3,7 +3,6 @@ ghost use Rattle.std.specs.Prelude.{◌≡◌, true, false, Some};
 ghost use Rattle.number.specs.Number.{Number};
 ghost use Rattle.number.specs.Place.{Inhabited};
 ghost use Rattle.scale.specs.Rounded.{Rounded};
-ghost use Rattle.scale.specs.declared.rounding.Rounding.TheVariants.{Down, Up};
 ghost use Rattle.range.specs.Bounds.{Within, bound_value};
 ghost use Rattle.range.specs.Hull.{Hull};
 ghost use Rattle.range.specs.Entries.{Admitted};
@@ -13,6 +12,7 @@ use number::Fraction;
 use scale::{ArithmeticScale, Rounding};
 
 /// What is entered: blank, or two bounds, each a fraction or absent; an absent bound leaves that side unbounded.
+// no `Option` of bounds: a blank is something that is entered, and an absent bound is `None` already
 #[derive(Clone, Copy, PartialEq, Eq, Debug)]
 pub enum Entry {
     Blank,
@@ -24,16 +24,12 @@ fn spans(lower: Fraction, upper: Fraction) -> bool
     ensures some { result ≡ true → Inhabited (Within (Some lower) (Some upper)) }
     ensures empty { result ≡ false → (x : Number) → Within (Some lower) (Some upper) x → ⊥ }
 {
-    if !lower.has_value() {
-        return false;
-    }
-    if !upper.has_value() {
-        return false;
-    }
-    !lower.is_above(upper)
+    lower.has_value() && upper.has_value() && !lower.is_above(upper)
 }
 
 // Whether some number lies within the bounds.
+// Here and below the bounds are two parameters, as the variant has them.
+#[tactic(auto, using(crate::proofs::Bounding::free_admits))]
 fn admits(lower: Option<Fraction>, upper: Option<Fraction>) -> bool
     ensures some { result ≡ true → Inhabited (Within lower upper) }
     ensures empty { result ≡ false → (x : Number) → Within lower upper x → ⊥ }
@@ -46,23 +42,13 @@ fn admits(lower: Option<Fraction>, upper: Option<Fraction>) -> bool
     }
 }
 
-// The code of a lower bound, rounded below; an absent one is unbounded.
-fn lower_code<S: ArithmeticScale>(scale: &S, bound: Option<Fraction>) -> i64
-    ensures { Rounded (S.place scale.now) Down (bound_value bound) result }
+// The code of a bound: a lower one rounded below, an upper one above; an absent one is unbounded.
+fn code<S: ArithmeticScale>(scale: &S, rounding: Rounding, bound: Option<Fraction>) -> i64
+    ensures { Rounded (S.place scale.now) rounding (bound_value bound) result }
 {
     match bound {
-        Some(f) => scale.fraction(Rounding::Down, f),
-        None => scale.lowest(),
-    }
-}
-
-// The code of an upper bound, rounded above; an absent one is unbounded.
-fn upper_code<S: ArithmeticScale>(scale: &S, bound: Option<Fraction>) -> i64
-    ensures { Rounded (S.place scale.now) Up (bound_value bound) result }
-{
-    match bound {
-        Some(f) => scale.fraction(Rounding::Up, f),
-        None => scale.highest(),
+        Some(f) => scale.fraction(rounding, f),
+        None => scale.infinite(rounding),
     }
 }
 
@@ -72,17 +58,11 @@ impl Entry {
         ensures { Hull (S.place scale.now) (Admitted self) result }
     {
         match self {
-            Entry::Blank => Range::blank(),
-            Entry::Bounds(lower, upper) => {
-                if admits(lower, upper) {
-                    Range {
-                        lower: lower_code(scale, lower),
-                        upper: upper_code(scale, upper),
-                    }
-                } else {
-                    Range::blank()
-                }
-            }
+            Entry::Bounds(lower, upper) if admits(lower, upper) => Range {
+                lower: code(scale, Rounding::Down, lower),
+                upper: code(scale, Rounding::Up, upper),
+            },
+            Entry::Blank | Entry::Bounds(_, _) => Range::blank(),
         }
     }
 }

@@ -1,11 +1,13 @@
 //! The operations that need only the order of a scale.
+//!
+//! A scale and the operands are parameters, as in the arithmetic.
 ghost use Rattle.std.specs.Prelude.{◌≡◌, ◌&&◌, ◌||◌, int_le, int_lt};
 ghost use Rattle.range.specs.Held.{Holds};
 ghost use Rattle.range.specs.Hull.{Hull};
 ghost use Rattle.range.specs.Outcomes.{Lesser, Greater, Either, Both, Picked};
 ghost use Rattle.range.specs.Truths.{Allows, Exactly, Comparisons, Less, IsAtMost, Equal};
 
-use crate::range::Range;
+use crate::range::{Range, any_blank};
 use crate::verdict::Verdict;
 use scale::OrderedScale;
 
@@ -33,23 +35,18 @@ pub fn meet<S: OrderedScale>(scale: &S, x: Range, y: Range) -> Range
 pub fn lesser<S: OrderedScale>(scale: &S, x: Range, y: Range) -> Range
     ensures { Hull (S.place scale.now) (Lesser (Holds (S.place scale.now) x) (Holds (S.place scale.now) y)) result }
 {
-    if x.is_blank(scale) {
-        return Range::blank();
-    }
-    if y.is_blank(scale) {
+    if any_blank(scale, x, y) {
         return Range::blank();
     }
     Range::new(x.lower.min(y.lower), x.upper.min(y.upper)).copy(scale)
 }
 
+// `lesser` and `greater` differ in `min` and `max` alone, but a function of the choice would need a contract longer than both.
 /// The greater of a number of each range.
 pub fn greater<S: OrderedScale>(scale: &S, x: Range, y: Range) -> Range
     ensures { Hull (S.place scale.now) (Greater (Holds (S.place scale.now) x) (Holds (S.place scale.now) y)) result }
 {
-    if x.is_blank(scale) {
-        return Range::blank();
-    }
-    if y.is_blank(scale) {
+    if any_blank(scale, x, y) {
         return Range::blank();
     }
     Range::new(x.lower.max(y.lower), x.upper.max(y.upper)).copy(scale)
@@ -59,26 +56,18 @@ pub fn greater<S: OrderedScale>(scale: &S, x: Range, y: Range) -> Range
 pub fn less<S: OrderedScale>(scale: &S, x: Range, y: Range) -> Verdict
     ensures { Exactly (Comparisons Less (Holds (S.place scale.now) x) (Holds (S.place scale.now) y)) result }
 {
-    if x.is_blank(scale) {
-        return Verdict::Void;
-    }
-    if y.is_blank(scale) {
+    if any_blank(scale, x, y) {
         return Verdict::Void;
     }
     Verdict::of(x.lower < y.upper, y.lower <= x.upper)
 }
 
-/// Whether x ≤ y.
+/// Whether x ≤ y, which is `not y < x`.
+#[tactic(auto, using(crate::proofs::Connecting::at_most_by_less))]
 pub fn at_most<S: OrderedScale>(scale: &S, x: Range, y: Range) -> Verdict
     ensures { Exactly (Comparisons IsAtMost (Holds (S.place scale.now) x) (Holds (S.place scale.now) y)) result }
 {
-    if x.is_blank(scale) {
-        return Verdict::Void;
-    }
-    if y.is_blank(scale) {
-        return Verdict::Void;
-    }
-    Verdict::of(x.lower <= y.upper, y.lower < x.upper)
+    less(scale, y, x).not()
 }
 
 // Whether each of two ranges that hold numbers begins where the other has not ended.
@@ -99,10 +88,7 @@ fn spread(x: Range, y: Range) -> bool
 pub fn equal<S: OrderedScale>(scale: &S, x: Range, y: Range) -> Verdict
     ensures { Exactly (Comparisons Equal (Holds (S.place scale.now) x) (Holds (S.place scale.now) y)) result }
 {
-    if x.is_blank(scale) {
-        return Verdict::Void;
-    }
-    if y.is_blank(scale) {
+    if any_blank(scale, x, y) {
         return Verdict::Void;
     }
     Verdict::of(overlap(x, y), spread(x, y))

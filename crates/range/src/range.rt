@@ -25,6 +25,7 @@ impl Range {
     }
 
     /// The blank that every operation gives. It holds no number on any ordered scale.
+    #[tactic(auto, using(crate::proofs::Codes::nothing_holds))]
     pub fn blank() -> Range
         ensures value { result ≡ nothing }
         ensures none { (p : ℤ → Place) → Ordered p → (x : Number) → Holds p result x → ⊥ }
@@ -40,13 +41,7 @@ impl Range {
         ensures empty { result ≡ true → (x : Number) → Holds (S.place scale.now) self x → ⊥ }
         ensures some { result ≡ false → Inhabited (Holds (S.place scale.now) self) }
     {
-        if scale.highest() <= self.lower {
-            return true;
-        }
-        if self.upper <= scale.lowest() {
-            return true;
-        }
-        self.upper < self.lower
+        scale.highest() <= self.lower || self.upper <= scale.lowest() || self.upper < self.lower
     }
 
     /// The tightest range round what the range holds: the hull of its numbers.
@@ -63,4 +58,13 @@ impl Range {
             upper: self.upper.min(scale.highest()),
         }
     }
+}
+
+// Whether one of two ranges is blank, so that nothing comes of the two.
+pub(crate) fn any_blank<S: OrderedScale>(scale: &S, x: Range, y: Range) -> bool
+    ensures empty { result ≡ true → (u v : Number) → Holds (S.place scale.now) x u → Holds (S.place scale.now) y v → ⊥ }
+    ensures first { result ≡ false → Inhabited (Holds (S.place scale.now) x) }
+    ensures second { result ≡ false → Inhabited (Holds (S.place scale.now) y) }
+{
+    x.is_blank(scale) || y.is_blank(scale)
 }

@@ -1,6 +1,8 @@
 //! Verdicts.
-ghost use Rattle.std.specs.Prelude.{◌≡◌, true, false, not, ◌&&◌, ◌||◌};
-ghost use Rattle.range.specs.Truths.{allowed, Allows, Exactly, OfTruth, OfTruths};
+ghost use Rattle.std.specs.Prelude.{◌≡◌, Some, true, false, not, ◌&&◌, ◌||◌};
+ghost use Rattle.range.specs.Truths.{allowed, Allows, Exactly, OfTruth, OfTruths, verdict_name};
+
+use std::fmt;
 
 /// A set of truths.
 #[derive(Clone, Copy, PartialEq, Eq, Debug)]
@@ -33,41 +35,23 @@ impl Verdict {
     pub fn and(self, other: Verdict) -> Verdict
         ensures { Exactly (OfTruths ◌&&◌ (Allows self) (Allows other)) result }
     {
-        match self {
-            Verdict::Void => Verdict::Void,
-            Verdict::Certain => other,
-            Verdict::Impossible => match other {
-                Verdict::Void => Verdict::Void,
-                Verdict::Certain | Verdict::Impossible | Verdict::Open => Verdict::Impossible,
-            },
-            Verdict::Open => match other {
-                Verdict::Void => Verdict::Void,
-                Verdict::Impossible => Verdict::Impossible,
-                Verdict::Certain | Verdict::Open => Verdict::Open,
-            },
+        match (self, other) {
+            (Verdict::Certain, v) | (v, Verdict::Certain) => v,
+            (Verdict::Void, _) | (_, Verdict::Void) => Verdict::Void,
+            (Verdict::Impossible, _) | (_, Verdict::Impossible) => Verdict::Impossible,
+            (Verdict::Open, Verdict::Open) => Verdict::Open,
         }
     }
 
-    /// The truths of `x or y`.
+    /// The truths of `x or y`, which is `not (not x and not y)`.
     pub fn or(self, other: Verdict) -> Verdict
         ensures { Exactly (OfTruths ◌||◌ (Allows self) (Allows other)) result }
     {
-        match self {
-            Verdict::Void => Verdict::Void,
-            Verdict::Impossible => other,
-            Verdict::Certain => match other {
-                Verdict::Void => Verdict::Void,
-                Verdict::Certain | Verdict::Impossible | Verdict::Open => Verdict::Certain,
-            },
-            Verdict::Open => match other {
-                Verdict::Void => Verdict::Void,
-                Verdict::Certain => Verdict::Certain,
-                Verdict::Impossible | Verdict::Open => Verdict::Open,
-            },
-        }
+        self.not().and(other.not()).not()
     }
 
     /// The truths of `not x`.
+    #[tactic(auto, using(crate::proofs::Connecting::not_open))]
     pub fn not(self) -> Verdict
         ensures { Exactly (OfTruth not (Allows self)) result }
     {
@@ -77,5 +61,19 @@ impl Verdict {
             Verdict::Impossible => Verdict::Certain,
             Verdict::Open => Verdict::Open,
         }
+    }
+}
+
+/// Its name.
+impl fmt::Display for Verdict {
+    ghost output = { λ v. Some (verdict_name v) };
+
+    fn fmt<W: fmt::Write>(&self, f: &mut fmt::Formatter<W>) -> fmt::Result {
+        f.write_str(match self {
+            Verdict::Certain => "certain",
+            Verdict::Impossible => "impossible",
+            Verdict::Open => "open",
+            Verdict::Void => "void",
+        })
     }
 }

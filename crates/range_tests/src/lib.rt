@@ -19,6 +19,7 @@ mod tests {
 
     const SLIDING_HIGH: i64 = 81920;
 
+    // `range` and `fraction` stand in the tests of the pad too, since a test crate can import no other's private functions; the short name keeps a row on its line
     fn range(lower: i64, upper: i64) -> Range {
         Range::new(lower, upper)
     }
@@ -27,17 +28,16 @@ mod tests {
         Some(Fraction { p, q })
     }
 
+    // The fraction as both bounds.
+    fn entered(p: i32, q: u32) -> Entry {
+        Entry::Bounds(fraction(p, q), fraction(p, q))
+    }
+
     #[test]
     fn entries_round_outwards(rt: HostRuntime) -> Result<(), Fail> {
         let tenths = RuledScale::new(10)?;
-        assert_eq!(rt;
-            Entry::Bounds(fraction(1, 3), fraction(1, 3)).hull(&tenths),
-            range(3, 4)
-        );
-        assert_eq!(rt;
-            Entry::Bounds(fraction(-1, 3), fraction(-1, 3)).hull(&tenths),
-            range(-4, -3)
-        );
+        assert_eq!(rt; entered(1, 3).hull(&tenths), range(3, 4));
+        assert_eq!(rt; entered(-1, 3).hull(&tenths), range(-4, -3));
         assert_eq!(rt;
             Entry::Bounds(None, fraction(5, 2)).hull(&tenths),
             range(LOW, 25)
@@ -51,11 +51,7 @@ mod tests {
             Range::blank()
         );
         assert_eq!(rt; Entry::Blank.hull(&tenths), Range::blank());
-        let sliding = SlidingScale;
-        assert_eq!(rt;
-            Entry::Bounds(fraction(8193, 4096), fraction(8193, 4096)).hull(&sliding),
-            range(8192, 8193)
-        );
+        assert_eq!(rt; entered(8193, 4096).hull(&SlidingScale), range(8192, 8193));
         Ok(())
     }
 

@@ -1,22 +1,19 @@
-use Rattle.std.proofs.Common.{refl, w64, SFits, rules}
+use Rattle.std.proofs.Common.{refl, rules}
 use Rattle.std.proofs.lemmas.Int.{to_z-of_z}
-use Rattle.scale.specs.declared.rounding.Rounding.TheVariants.{Down, Up}
-use Rattle.scale.specs.Rounded.{Difference}
+use Rattle.range.proofs.Codes.{Codes}
 use Rattle.range.proofs.Working.{difference_hull}
 use Rattle.range.proofs.arithmetic.difference.Goals as goal
 
 pub returns : goal.returns
 returns g c =
     let p = g.S.OrderedScale.place c.args.scale.now in
-    let x = c.args.x in
-    let y = c.args.y in
-    let fxl : SFits w64 x.lower = search rules in
-    let fxu : SFits w64 x.upper = search rules in
-    let fyl : SFits w64 y.lower = search rules in
-    let fyu : SFits w64 y.upper = search rules in
-    let fl : SFits w64 c.difference.result = record { sfits = c.difference.type_inv } in
-    let fu : SFits w64 c.difference-2.result = record { sfits = c.difference-2.type_inv } in
-    let l : Difference p Down x.lower y.upper c.difference.result = simp to_z-of_z at c.difference.ensures in
-    let u : Difference p Up x.upper y.lower c.difference-2.result = simp to_z-of_z at c.difference-2.ensures in
-    let s = c.if-any_blank.ensures.some refl in
-    simp to_z-of_z (difference_hull p x y s.0 s.1 c.difference.result c.difference-2.result l u)
+    let C : Codes c.args.x = search rules in
+    let D : Codes c.args.y = search rules in
+    let xl = C.lower_code in
+    let xu = C.upper_code in
+    let yl = D.lower_code in
+    let yu = D.upper_code in
+    let s = c.if-any_blank.ensures.first refl in
+    let t = c.if-any_blank.ensures.second refl in
+    let h = difference_hull p c.args.x c.args.y s t c.difference.result c.difference-2.result (simp to_z-of_z at c.difference.ensures) (simp to_z-of_z at c.difference-2.ensures) in
+    search (rules, to_z-of_z, h)

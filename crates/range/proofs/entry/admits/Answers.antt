@@ -1,21 +1,15 @@
-use Rattle.std.proofs.Common.{◌≡◌, ℕ, sym, ◌∙◌, arith}
-use Rattle.range.proofs.Bounding.{low_admits, high_admits, low_none, high_none, free_admits}
+use Rattle.std.proofs.Common.{sym, ◌∙◌}
+use Rattle.range.proofs.Bounding.{low_admits, high_admits}
 use Rattle.range.proofs.entry.admits.Goals as goal
 
-pub returns-in-Some-None : goal.returns-in-Some-None
-returns-in-Some-None c =
-    let f = c.in-Some-None.l in
-    let e = c.has_value.ensures in
-    rw (c.in-Some-None.is-0, c.in-Some-None.is-1) (record { some = λ k. low_admits f (sym e ∙ k); empty = λ k x h. low_none f (sym e ∙ k) x h.0 })
+pub returns-in-Some-Some-clause-some : goal.returns-in-Some-Some-clause-some
+returns-in-Some-Some-clause-some c = rw (c.in-Some-Some.is-0, c.in-Some-Some.is-1) c.spans.ensures.some
 
-pub returns-in-None-Some : goal.returns-in-None-Some
-returns-in-None-Some c =
-    let f = c.in-None-Some.u in
-    let e = c.has_value-in-None-Some.ensures in
-    rw (c.in-None-Some.is-0, c.in-None-Some.is-1) (record { some = λ k. high_admits f (sym e ∙ k); empty = λ k x h. high_none f (sym e ∙ k) x h.1 })
+pub returns-in-Some-Some-clause-empty : goal.returns-in-Some-Some-clause-empty
+returns-in-Some-Some-clause-empty c = rw (c.in-Some-Some.is-0, c.in-Some-Some.is-1) c.spans.ensures.empty
 
-pub returns-in-None-None : goal.returns-in-None-None
-returns-in-None-None c = rw (c.in-None-None.is-0, c.in-None-None.is-1) (record { some = λ _. free_admits; empty = λ k. absurd (let z : ◌≡◌ {A = ℕ} 0 1 = cc in omega arith) })
+pub returns-in-Some-None-clause-some : goal.returns-in-Some-None-clause-some
+returns-in-Some-None-clause-some c e = rw (c.in-Some-None.is-0, c.in-Some-None.is-1) (low_admits c.in-Some-None.l (sym c.has_value.ensures ∙ e))
 
-pub returns-in-Some-Some : goal.returns-in-Some-Some
-returns-in-Some-Some c = rw (c.in-Some-Some.is-0, c.in-Some-Some.is-1) (record { some = c.spans.ensures.some; empty = c.spans.ensures.empty })
+pub returns-in-None-Some-clause-some : goal.returns-in-None-Some-clause-some
+returns-in-None-Some-clause-some c e = rw (c.in-None-Some.is-0, c.in-None-Some.is-1) (high_admits c.in-None-Some.u (sym c.has_value-in-None-Some.ensures ∙ e))

@@ -1,39 +1,18 @@
-use Rattle.std.proofs.Common.{◌≡◌, refl, subst, inl, inr, ⊎_elim, arith, rules}
-use Rattle.std.specs.Int.{int_max, int_min}
+use Rattle.std.proofs.Common.{refl, arith, rules}
 use Rattle.std.proofs.lemmas.Int.{ints, clamps}
-use Rattle.range.specs.declared.range.Range.{Range}
-use Rattle.range.specs.Held.{Holds}
-use Rattle.range.specs.Hull.{Hull}
-use Rattle.range.proofs.Codes.{Codes, hull_same}
-use Rattle.range.proofs.Comparing.{join_hull}
+use Rattle.range.proofs.Codes.{Codes, by_ends}
+use Rattle.range.proofs.Comparing.{join_hull, join_first, join_second}
 use Rattle.range.proofs.order.join.Goals as goal
 
 pub returns : goal.returns
 returns g c =
-    let p = g.S.OrderedScale.place c.args.scale.now in
     let O = g.met.S.OrderedScale.ordered c.args.scale.now in
-    let x = c.args.x in
-    let y = c.args.y in
-    let C : Codes x = record { lower_code = search rules; upper_code = search rules } in
-    let D : Codes y = record { lower_code = search rules; upper_code = search rules } in
-    let xl = C.lower_code in
-    let xu = C.upper_code in
-    let yl = D.lower_code in
-    let yu = D.upper_code in
-    let l : c.new.result.lower ≡ int_min x.lower y.lower = omega (arith, ints, clamps) in
-    let u : c.new.result.upper ≡ int_max x.upper y.upper = omega (arith, ints, clamps) in
-    let e : ◌≡◌ {A = Range} c.new.result (record { lower = int_min x.lower y.lower; upper = int_max x.upper y.upper }) =
-    λ i. record { lower = l i; upper = u i } in
-    let h = c.copy-2.ensures.hull in
-    let k = subst (λ q. Hull p (Holds p q) c.copy-2.result) e h in
-    join_hull O x y C D (c.if-is_blank.ensures.some refl) (c.if-is_blank-2.ensures.some refl) k
+    let C : Codes c.args.x = search rules in
+    let D : Codes c.args.y = search rules in
+    join_hull O c.args.x c.args.y C D (c.if-is_blank.ensures.some refl) (c.if-is_blank-2.ensures.some refl) (by_ends (omega (arith, ints, clamps)) (omega (arith, ints, clamps)) c.copy-2.ensures.hull)
 
 pub returns-then-is_blank : goal.returns-then-is_blank
-returns-then-is_blank g c =
-    let n = c.if-is_blank.ensures.empty refl in
-    hull_same (λ z h. inr h) (λ z h. ⊎_elim (λ k. absurd (n z k)) (λ k. k) h) c.copy.ensures.hull
+returns-then-is_blank g c = join_second (c.if-is_blank.ensures.empty refl) c.copy.ensures.hull
 
 pub returns-then-is_blank-2 : goal.returns-then-is_blank-2
-returns-then-is_blank-2 g c =
-    let n = c.if-is_blank-2.ensures.empty refl in
-    hull_same (λ z h. inl h) (λ z h. ⊎_elim (λ k. k) (λ k. absurd (n z k)) h) c.copy-then-is_blank-2.ensures.hull
+returns-then-is_blank-2 g c = join_first (c.if-is_blank-2.ensures.empty refl) c.copy-then-is_blank-2.ensures.hull

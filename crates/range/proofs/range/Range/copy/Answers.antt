@@ -5,10 +5,9 @@ use Rattle.range.proofs.range.Range.copy.Goals as goal
 
 pub returns : goal.returns
 returns g c =
-    let p = g.S.OrderedScale.place c.args.scale.now in
     let O = g.met.S.OrderedScale.ordered c.args.scale.now in
     let T = g.met.S.OrderedScale.told c.args.scale.now in
-    let C : Codes c.args.self = record { lower_code = search rules; upper_code = search rules } in
+    let C : Codes c.args.self = search rules in
     let l = C.lower_code in
     let u = C.upper_code in
     let some = c.if-is_blank.ensures.some refl in

@@ -1,5 +1,5 @@
-use Rattle.range.proofs.Connecting.{or_open}
+use Rattle.range.proofs.Connecting.{or_by_and}
 use Rattle.range.proofs.verdict.Verdict.or.Goals as goal
 
-pub returns-in-Impossible-other : goal.returns-in-Impossible-other
-returns-in-Impossible-other c = rw c.in-Open.is (or_open c.args.other c.in-Impossible-other.is)
+pub returns : goal.returns
+returns c = or_by_and c.args.self c.args.other c.not.result c.not-2.result c.and.result c.not-3.result c.not.ensures c.not-2.ensures c.and.ensures c.not-3.ensures
