@@ -11,7 +11,7 @@ trap 'rm -rf "$work"' EXIT
 
 # The pad as a static library, from a repository of its own.
 mkdir -p "$work/crates/padbench/src"
-../tools/copy.sh "$work" fault number scale range kept sheet pad
+../tools/copy.sh "$work" fault number scale range sheet pad
 echo 'padbench staticlib: number scale range sheet pad' >> "$work/crates.txt"
 cp padbench.rt.txt "$work/crates/padbench/src/lib.rt"
 (cd "$work/crates/padbench" && rt lib) > "$work/log" 2>&1 || { tail -n 20 "$work/log"; exit 1; }

@@ -8,7 +8,7 @@ trap 'rm -rf "$work"' EXIT
 
 # A repository of its own: a crate `misuse` above the pad.
 mkdir -p "$work/crates/misuse/src"
-tools/copy.sh "$work" fault number scale range kept sheet pad
+tools/copy.sh "$work" fault number scale range sheet pad
 echo 'misuse: scale range sheet pad' >> "$work/crates.txt"
 
 # Compiles the source on the standard input, with a test that does nothing, since a crate is compiled without a proof only to run its tests.

@@ -1,9 +1,10 @@
 -- Laws of the lines that a list of instructions reads before it keeps them. Assumes nothing.
-use Rattle.std.proofs.Common.{◌≡◌, ℕ, zero, suc, ◌+◌, ◌<◌, Bool, true, false, not, ◌&&◌, ◌||◌, ◌⊎◌, List, length, Some, None, Option, sym, refl, ap, ◌∙◌, subst, inl, inr, arith}
-use Rattle.std.proofs.lemmas.Bool.{false≢true, both_ways, eqb-true, eq-eqb, cases_eq, cases_Bool, and_parts, and_from, or_cases, or_left, or_right, not-true, not_from_false}
+use Rattle.std.proofs.Common.{◌≡◌, ℕ, zero, suc, ◌+◌, ◌<◌, Bool, true, false, not, ◌&&◌, ◌||◌, ◌⊎◌, List, length, Some, Option, sym, refl, ap, ◌∙◌, subst, inl, inr, arith}
+use Rattle.std.proofs.lemmas.Bool.{false≢true, both_ways, eq-eqb, cases_eq, cases_Bool, and_parts, and_from, or_cases, or_left, or_right, not-true, not_from_false}
+use Rattle.std.proofs.lemmas.Bool.Decides.{nat_tests}
 use Rattle.std.specs.List.{slice_get}
 use Rattle.sheet.specs.declared.instruction.Instruction.{Instruction}
-use Rattle.sheet.specs.declared.instruction.Instruction.TheVariants.{Line, Constant, Keep, Flag, Again, Plus, Minus, Times, Over, Parted, Negate, Square, Lesser, Greater, Join, Meet, Less, AtMost, Equal, And, Or, Not, Pick}
+use Rattle.sheet.specs.declared.instruction.Instruction.TheVariants.{Line, Keep}
 use Rattle.sheet.specs.Lines.{any_below, reads, keeps, kept_before, reads_first}
 use Rattle.sheet.proofs.Walks.{any_next}
 
@@ -20,56 +21,10 @@ any_from t (suc n) e = elim (or_cases (any_below t n) (t n) e) [ inl q ↦ (let 
 
 -- only the instruction `Line a` reads the line a, and only `Keep a` keeps it
 pub reads_is : (o : Option Instruction) (a : ℕ) → reads o a ≡ true → o ≡ Some (Line a)
-reads_is None a e = absurd (false≢true e)
-reads_is (Some (Line b)) a e = ap (λ c. Some (Line c)) (eqb-true b a e)
-reads_is (Some (Constant f)) a e = absurd (false≢true e)
-reads_is (Some (Keep b)) a e = absurd (false≢true e)
-reads_is (Some (Flag b)) a e = absurd (false≢true e)
-reads_is (Some Again) a e = absurd (false≢true e)
-reads_is (Some Plus) a e = absurd (false≢true e)
-reads_is (Some Minus) a e = absurd (false≢true e)
-reads_is (Some Times) a e = absurd (false≢true e)
-reads_is (Some Over) a e = absurd (false≢true e)
-reads_is (Some Parted) a e = absurd (false≢true e)
-reads_is (Some Negate) a e = absurd (false≢true e)
-reads_is (Some Square) a e = absurd (false≢true e)
-reads_is (Some Lesser) a e = absurd (false≢true e)
-reads_is (Some Greater) a e = absurd (false≢true e)
-reads_is (Some Join) a e = absurd (false≢true e)
-reads_is (Some Meet) a e = absurd (false≢true e)
-reads_is (Some Less) a e = absurd (false≢true e)
-reads_is (Some AtMost) a e = absurd (false≢true e)
-reads_is (Some Equal) a e = absurd (false≢true e)
-reads_is (Some And) a e = absurd (false≢true e)
-reads_is (Some Or) a e = absurd (false≢true e)
-reads_is (Some Not) a e = absurd (false≢true e)
-reads_is (Some Pick) a e = absurd (false≢true e)
+reads_is o a e = grind (arith, nat_tests)
 
 pub keeps_is : (o : Option Instruction) (a : ℕ) → keeps o a ≡ true → o ≡ Some (Keep a)
-keeps_is None a e = absurd (false≢true e)
-keeps_is (Some (Line b)) a e = absurd (false≢true e)
-keeps_is (Some (Constant f)) a e = absurd (false≢true e)
-keeps_is (Some (Keep b)) a e = ap (λ c. Some (Keep c)) (eqb-true b a e)
-keeps_is (Some (Flag b)) a e = absurd (false≢true e)
-keeps_is (Some Again) a e = absurd (false≢true e)
-keeps_is (Some Plus) a e = absurd (false≢true e)
-keeps_is (Some Minus) a e = absurd (false≢true e)
-keeps_is (Some Times) a e = absurd (false≢true e)
-keeps_is (Some Over) a e = absurd (false≢true e)
-keeps_is (Some Parted) a e = absurd (false≢true e)
-keeps_is (Some Negate) a e = absurd (false≢true e)
-keeps_is (Some Square) a e = absurd (false≢true e)
-keeps_is (Some Lesser) a e = absurd (false≢true e)
-keeps_is (Some Greater) a e = absurd (false≢true e)
-keeps_is (Some Join) a e = absurd (false≢true e)
-keeps_is (Some Meet) a e = absurd (false≢true e)
-keeps_is (Some Less) a e = absurd (false≢true e)
-keeps_is (Some AtMost) a e = absurd (false≢true e)
-keeps_is (Some Equal) a e = absurd (false≢true e)
-keeps_is (Some And) a e = absurd (false≢true e)
-keeps_is (Some Or) a e = absurd (false≢true e)
-keeps_is (Some Not) a e = absurd (false≢true e)
-keeps_is (Some Pick) a e = absurd (false≢true e)
+keeps_is o a e = grind (arith, nat_tests)
 
 module _ (xs : List Instruction) (a : ℕ) where
   -- a line that is read was kept before, or is read first

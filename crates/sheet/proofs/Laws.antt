@@ -11,18 +11,19 @@ use Rattle.sheet.specs.declared.sheet.ClearedSheet.{ClearedSheet}
 use Rattle.sheet.specs.Operations.{shape, allowed}
 use Rattle.sheet.specs.Files.{constant, constant_count, instruction_count, operation_at, argument_at}
 use Rattle.sheet.specs.Filing.{filing}
-use Rattle.sheet.specs.Instructions.{named, operation, with_argument}
+use Rattle.sheet.specs.Instructions.{instructions, named, operation, with_argument}
 use Rattle.sheet.specs.Depths.{after, depth, on_ranges, on_verdicts, operation_in, range_moves, verdict_moves, range_depth_at, verdict_depth_at, greatest_range_depth, greatest_verdict_depth}
 use Rattle.sheet.specs.Clearing.{clearing}
 use Rattle.sheet.specs.Workable.{Workable}
 use Rattle.sheet.specs.Held.{filed_bytes, cleared_bytes, instructions_of}
+use Rattle.sheet.proofs.Accepted.{accepted}
 use Rattle.sheet.proofs.Walks.{depth_next, within_greatest, greatest_reached}
 use Rattle.sheet.proofs.Listing.{operations_same, instructions_length, instructions_nth, range_depth_same, verdict_depth_same}
 use Rattle.sheet.proofs.Unbroken.{none_from, unbroken, ended, valued, ruled_at}
 
 -- a filed sheet breaks no rule of filing
 pub is_filed : (s : FiledSheet) → filing (filed_bytes s) ≡ None
-is_filed s = none_from (filing (filed_bytes s)) s.kept.value.filed
+is_filed s = none_from (filing (filed_bytes s)) s.filed
 
 -- an instruction that is there stands before the end
 pub nth_before : {X : Type 0} (xs : List X) (i : ℕ) (x : X) → slice_get xs i ≡ Some x → i < length xs
@@ -52,76 +53,62 @@ module _ (xs : List Instruction) where
   pub verdicts_reached : (i : ℕ) × (i ≤ length xs) × (verdict_depth_at xs i ≡ greatest_verdict_depth xs)
   verdicts_reached = greatest_reached (verdict_moves xs) (length xs)
 
-module _ (s : ClearedSheet) where
-  -- a cleared sheet breaks no rule
-  pub is_cleared : (filing (cleared_bytes s) ≡ None) × (clearing (cleared_bytes s) ≡ None)
-  is_cleared = (none_from (filing (cleared_bytes s)) s.kept.value.filed, none_from (clearing (cleared_bytes s)) s.kept.value.cleared)
+-- the instructions of a file that breaks no rule
+module _ (bs : List ℕ) (cleared : is_some (clearing bs) ≡ false) where
+  pub count_from : length (instructions bs) ≡ instruction_count bs
+  count_from = instructions_length bs (unbroken bs cleared)
 
-  kept_rules : is_some (clearing (cleared_bytes s)) ≡ false
-  kept_rules = s.kept.value.cleared
+  module _ (i : ℕ) (x : Instruction) (e : slice_get (instructions bs) i ≡ Some x) where
+    before_end : i < instruction_count bs
+    before_end = let n = count_from in let h = nth_before (instructions bs) i x e in omega arith
 
-  count : length (instructions_of s) ≡ instruction_count (cleared_bytes s)
-  count = instructions_length (cleared_bytes s) (unbroken (cleared_bytes s) kept_rules)
-
-  -- it has from 1 to 4096 instructions
-  pub counted : (1 ≤ length (instructions_of s)) × (length (instructions_of s) ≤ 4096)
-  counted = let n = count in let l = s.kept.value.laid in (omega (arith, l.0.2, l.1.1), omega (arith, l.0.3, l.1.1))
-
-  module _ (i : ℕ) (x : Instruction) (e : slice_get (instructions_of s) i ≡ Some x) where
-    before_end : i < instruction_count (cleared_bytes s)
-    before_end = let n = count in let h = nth_before (instructions_of s) i x e in omega arith
-
-    read_as : (operation_at (cleared_bytes s) i ≡ Some (operation x)) × (named (operation x) (argument_at (cleared_bytes s) i) (constant (cleared_bytes s) (argument_at (cleared_bytes s) i)) ≡ x)
+    read_as : (operation_at bs i ≡ Some (operation x)) × (named (operation x) (argument_at bs i) (constant bs (argument_at bs i)) ≡ x)
     read_as =
-        let bs = cleared_bytes s in
-        let u = unbroken bs kept_rules in
+        let u = unbroken bs cleared in
         let o = sym (operations_same bs u i before_end) ∙ ap operation_in e in
         let a = argument_at bs i in
         let n : Some (named (operation x) a (constant bs a)) ≡ Some x = ap (λ p. with_argument p a (constant bs a)) (sym o) ∙ sym (instructions_nth bs u i before_end) ∙ e in
         (o, cc)
 
-    enough : ((shape (operation x)).ranges.takes ≤ range_depth_at (instructions_of s) i) × ((shape (operation x)).verdicts.takes ≤ verdict_depth_at (instructions_of s) i)
+    enough : ((shape (operation x)).ranges.takes ≤ range_depth_at (instructions bs) i) × ((shape (operation x)).verdicts.takes ≤ verdict_depth_at (instructions bs) i)
     enough =
-        let bs = cleared_bytes s in
-        let u = unbroken bs kept_rules in
-        let r = ruled_at bs kept_rules i (operation x) before_end read_as.0 in
+        let u = unbroken bs cleared in
+        let r = ruled_at bs cleared i (operation x) before_end read_as.0 in
         let h : i ≤ instruction_count bs = omega (arith, before_end) in
         let p = range_depth_same bs u i h in
         let q = verdict_depth_same bs u i h in
         (omega (arith, r.ranges, p), omega (arith, r.verdicts, q))
 
-    fine : allowed (shape (operation x)).argument (constant_count (cleared_bytes s)) (argument_at (cleared_bytes s) i) ≡ true
-    fine = (ruled_at (cleared_bytes s) kept_rules i (operation x) before_end read_as.0).argument
+    fine : allowed (shape (operation x)).argument (constant_count bs) (argument_at bs i) ≡ true
+    fine = (ruled_at bs cleared i (operation x) before_end read_as.0).argument
 
-  empty_at_end : (range_depth_at (instructions_of s) (length (instructions_of s)) ≡ 0) × (verdict_depth_at (instructions_of s) (length (instructions_of s)) ≡ 0)
+  empty_at_end : (range_depth_at (instructions bs) (length (instructions bs)) ≡ 0) × (verdict_depth_at (instructions bs) (length (instructions bs)) ≡ 0)
   empty_at_end =
-      let bs = cleared_bytes s in
-      let u = unbroken bs kept_rules in
-      let z = ended bs kept_rules in
+      let u = unbroken bs cleared in
+      let z = ended bs cleared in
       let h : instruction_count bs ≤ instruction_count bs = omega arith in (
-        ap (range_depth_at (instructions_of s)) count ∙ range_depth_same bs u (instruction_count bs) h ∙ z.0,
-        ap (verdict_depth_at (instructions_of s)) count ∙ verdict_depth_same bs u (instruction_count bs) h ∙ z.1,
+        ap (range_depth_at (instructions bs)) count_from ∙ range_depth_same bs u (instruction_count bs) h ∙ z.0,
+        ap (verdict_depth_at (instructions bs)) count_from ∙ verdict_depth_same bs u (instruction_count bs) h ∙ z.1,
       )
 
-  line_small : (i a : ℕ) → slice_get (instructions_of s) i ≡ Some (Line a) → a ≤ 31
-  line_small i a e = let n = (read_as i (Line a) e).1 in let b : argument_at (cleared_bytes s) i ≡ a = cc in omega (arith, leb-true (argument_at (cleared_bytes s) i) 31 (fine i (Line a) e), b)
+  line_small : (i a : ℕ) → slice_get (instructions bs) i ≡ Some (Line a) → a ≤ 31
+  line_small i a e = let n = (read_as i (Line a) e).1 in let b : argument_at bs i ≡ a = cc in omega (arith, leb-true (argument_at bs i) 31 (fine i (Line a) e), b)
 
-  keep_small : (i a : ℕ) → slice_get (instructions_of s) i ≡ Some (Keep a) → a ≤ 31
-  keep_small i a e = let n = (read_as i (Keep a) e).1 in let b : argument_at (cleared_bytes s) i ≡ a = cc in omega (arith, leb-true (argument_at (cleared_bytes s) i) 31 (fine i (Keep a) e), b)
+  keep_small : (i a : ℕ) → slice_get (instructions bs) i ≡ Some (Keep a) → a ≤ 31
+  keep_small i a e = let n = (read_as i (Keep a) e).1 in let b : argument_at bs i ≡ a = cc in omega (arith, leb-true (argument_at bs i) 31 (fine i (Keep a) e), b)
 
-  flag_small : (i a : ℕ) → slice_get (instructions_of s) i ≡ Some (Flag a) → a ≤ 31
-  flag_small i a e = let n = (read_as i (Flag a) e).1 in let b : argument_at (cleared_bytes s) i ≡ a = cc in omega (arith, leb-true (argument_at (cleared_bytes s) i) 31 (fine i (Flag a) e), b)
+  flag_small : (i a : ℕ) → slice_get (instructions bs) i ≡ Some (Flag a) → a ≤ 31
+  flag_small i a e = let n = (read_as i (Flag a) e).1 in let b : argument_at bs i ≡ a = cc in omega (arith, leb-true (argument_at bs i) 31 (fine i (Flag a) e), b)
 
-  constant_valued : (i : ℕ) (f : Fraction) → slice_get (instructions_of s) i ≡ Some (Constant f) → is_some (value f) ≡ true
+  constant_valued : (i : ℕ) (f : Fraction) → slice_get (instructions bs) i ≡ Some (Constant f) → is_some (value f) ≡ true
   constant_valued i f e =
       let n = (read_as i (Constant f) e).1 in
-      let bs = cleared_bytes s in
       let b : constant bs (argument_at bs i) ≡ f = cc in
-      subst (λ g. is_some (value g) ≡ true) b (valued bs kept_rules (argument_at bs i) (ltb-true (argument_at bs i) (constant_count bs) (fine i (Constant f) e)))
+      subst (λ g. is_some (value g) ≡ true) b (valued bs cleared (argument_at bs i) (ltb-true (argument_at bs i) (constant_count bs) (fine i (Constant f) e)))
 
-  -- it can be worked
-  pub workable : Workable (instructions_of s)
-  workable = record {
+  -- they can be worked
+  pub workable_from : Workable (instructions bs)
+  workable_from = record {
     enough_ranges = λ i x e. (enough i x e).0;
     enough_verdicts = λ i x e. (enough i x e).1;
     no_range_left = empty_at_end.0;
@@ -131,3 +118,19 @@ module _ (s : ClearedSheet) where
     flag = flag_small;
     constant = constant_valued;
   }
+
+module _ (s : ClearedSheet) where
+  -- a cleared sheet breaks no rule
+  pub is_cleared : (filing (cleared_bytes s) ≡ None) × (clearing (cleared_bytes s) ≡ None)
+  is_cleared = (none_from (filing (cleared_bytes s)) s.sheet.filed, none_from (clearing (cleared_bytes s)) s.cleared)
+
+  pub count : length (instructions_of s) ≡ instruction_count (cleared_bytes s)
+  count = count_from (cleared_bytes s) s.cleared
+
+  -- it has from 1 to 4096 instructions
+  pub counted : (1 ≤ length (instructions_of s)) × (length (instructions_of s) ≤ 4096)
+  counted = let n = count in let l = accepted (cleared_bytes s) s.sheet.filed in (omega (arith, l.some_instruction), omega (arith, l.few_instructions))
+
+  -- it can be worked
+  pub workable : Workable (instructions_of s)
+  workable = workable_from (cleared_bytes s) s.cleared

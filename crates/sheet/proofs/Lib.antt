@@ -7,3 +7,8 @@ pub mod Ends
 pub mod Unbroken
 pub mod FirstReads
 pub mod Laws
+pub mod Reading
+pub mod Left
+pub mod Chunks
+pub mod Accepted
+pub mod Constants

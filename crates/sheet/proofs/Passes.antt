@@ -1,7 +1,9 @@
 -- What the pass over the instructions knows at each of them. Assumes nothing.
-use Rattle.std.proofs.Common.{◌≡◌, ℕ, zero, suc, ◌+◌, ◌*◌, ◌≤◌, max, Bool, false, not, ◌&&◌, ◌||◌, List, get_or, replicate, Some, None, Option, sym, refl, ap, ◌∙◌, arith}
+use Rattle.std.proofs.Common.{◌≡◌, ℕ, zero, suc, ◌+◌, ◌*◌, ◌≤◌, max, Bool, true, false, not, ◌&&◌, ◌||◌, List, get_or, replicate, Some, None, Option, sym, refl, ap, ◌∙◌, arith}
 use Rattle.sheet.specs.declared.operation.Operation.{Operation}
 use Rattle.sheet.specs.declared.operation.Operation.TheVariants.{Line, Keep}
+use Rattle.sheet.specs.declared.tally.Tally.{Tally}
+use Rattle.sheet.specs.Tallies.{start, first_use, used, is_read, After}
 use Rattle.sheet.specs.Rules.{first_below}
 use Rattle.sheet.specs.Operations.{shape}
 use Rattle.sheet.specs.Files.{operation_at, argument_at, constant_count}
@@ -23,26 +25,25 @@ reads_at bs a i = does_at (operation_at bs i) (argument_at bs i) Line a
 abbrev pub keeps_at : List ℕ → ℕ → ℕ → Bool
 keeps_at bs a i = does_at (operation_at bs i) (argument_at bs i) Keep a
 
--- before the instruction i: the depths, and the lines that are kept and that were read first
-pub record SoFar (bs : List ℕ) (i r rs v vs : ℕ) (kept reads : List Bool) : Type 0 where
+-- what the tally knows before the instruction i
+pub record SoFar (bs : List ℕ) (i : ℕ) (t : Tally) : Type 0 where
   pub unbroken : first_below (instruction_refusal bs) i ≡ None
-  pub ranges : r ≡ depth (range_moves_at bs) i
-  pub most_ranges : rs ≡ greatest (range_moves_at bs) i
-  pub few_ranges : r ≤ 2 * i
-  pub verdicts : v ≡ depth (verdict_moves_at bs) i
-  pub most_verdicts : vs ≡ greatest (verdict_moves_at bs) i
-  pub few_verdicts : v ≤ 2 * i
-  pub keeps : (a : ℕ) → get_or kept a false ≡ any_below (keeps_at bs a) i
-  pub reads_first : (a : ℕ) → get_or reads a false ≡ first_read (reads_at bs a) (keeps_at bs a) i
+  pub ranges : t.ranges.«now» ≡ depth (range_moves_at bs) i
+  pub most_ranges : t.ranges.greatest ≡ greatest (range_moves_at bs) i
+  pub few_ranges : t.ranges.«now» ≤ 2 * i
+  pub verdicts : t.verdicts.«now» ≡ depth (verdict_moves_at bs) i
+  pub most_verdicts : t.verdicts.greatest ≡ greatest (verdict_moves_at bs) i
+  pub few_verdicts : t.verdicts.«now» ≤ 2 * i
+  pub lines : (a : ℕ) → get_or t.first_uses a None ≡ first_use (first_read (reads_at bs a) (keeps_at bs a) i) (any_below (keeps_at bs a) i)
 
-none_in : (n a : ℕ) → get_or (replicate n false) a false ≡ false
-none_in zero a = refl
-none_in (suc n) zero = refl
-none_in (suc n) (suc a) = none_in n a
+unused : (n a : ℕ) → get_or (replicate n None) a None ≡ first_use false false
+unused zero a = refl
+unused (suc n) zero = refl
+unused (suc n) (suc a) = unused n a
 
-pub start : (bs : List ℕ) → SoFar bs 0 0 0 0 0 (replicate 32 false) (replicate 32 false)
+pub begin : (bs : List ℕ) → SoFar bs 0 start
 unfolding depth greatest any_below
-start bs = record {
+begin bs = record {
   unbroken = below_none (instruction_refusal bs);
   ranges = refl;
   most_ranges = refl;
@@ -50,33 +51,56 @@ start bs = record {
   verdicts = refl;
   most_verdicts = refl;
   few_verdicts = omega arith;
-  keeps = none_in 32;
-  reads_first = none_in 32;
+  lines = unused 32;
 }
 
 -- the rule on the instruction i, at the depths that the pass has
-pub ruled : (bs : List ℕ) {i r rs v vs : ℕ} {kept reads : List Bool} → SoFar bs i r rs v vs kept reads → instruction_refusal bs i ≡ broken_by (constant_count bs) i (operation_at bs i) (argument_at bs i) r v
-ruled bs {i} s =
+pub ruled : (bs : List ℕ) (i : ℕ) (t : Tally) → SoFar bs i t → instruction_refusal bs i ≡ broken_by (constant_count bs) i (operation_at bs i) (argument_at bs i) t.ranges.«now» t.verdicts.«now»
+ruled bs i t s =
     ap (λ x. broken_by (constant_count bs) i (operation_at bs i) (argument_at bs i) x (depth (verdict_moves_at bs) i)) (sym s.ranges)
-    ∙ ap (broken_by (constant_count bs) i (operation_at bs i) (argument_at bs i) _) (sym s.verdicts)
+    ∙ ap (broken_by (constant_count bs) i (operation_at bs i) (argument_at bs i) t.ranges.«now») (sym s.verdicts)
+
+-- a line's first use stays
+used_after : (f k r s : Bool) → used (first_use f k) r s ≡ first_use (f || (r && not k)) (k || s)
+used_after true k r s = refl
+used_after false true true s = refl
+used_after false true false s = refl
+used_after false false true s = refl
+used_after false false false s = refl
 
 -- one instruction more, which breaks no rule
-pub next : (bs : List ℕ) {i r rs v vs : ℕ} {kept reads : List Bool} (o : Operation) {r' rs' v' vs' : ℕ} {kept' reads' : List Bool} → SoFar bs i r rs v vs kept reads → operation_at bs i ≡ Some o → broken_by (constant_count bs) i (Some o) (argument_at bs i) r v ≡ None → (r' ≡ after (shape o).ranges r) × (rs' ≡ max rs (after (shape o).ranges r)) → (v' ≡ after (shape o).verdicts v) × (vs' ≡ max vs (after (shape o).verdicts v)) → ((a : ℕ) → get_or kept' a false ≡ (get_or kept a false || is_on o (argument_at bs i) Keep a)) → ((a : ℕ) → get_or reads' a false ≡ (get_or reads a false || (is_on o (argument_at bs i) Line a && not (get_or kept a false)))) → SoFar bs (i + 1) r' rs' v' vs' kept' reads'
-next bs {i} {r} {rs} {v} {vs} {kept} {reads} o s known fine er ev ek ed =
+pub next : (bs : List ℕ) (i : ℕ) (t u : Tally) (o : Operation) → SoFar bs i t → operation_at bs i ≡ Some o → broken_by (constant_count bs) i (Some o) (argument_at bs i) t.ranges.«now» t.verdicts.«now» ≡ None → After t o (argument_at bs i) u → SoFar bs (i + 1) u
+next bs i t u o s known fine x =
     let few = puts_few o in
+    let r = t.ranges.«now» in
+    let v = t.verdicts.«now» in
+    let b = argument_at bs i in
     let mr : after (shape o).ranges r ≡ depth (range_moves_at bs) (i + 1) = ap (after (shape o).ranges) s.ranges ∙ ap (λ p. after (on_ranges p) (depth (range_moves_at bs) i)) (sym known) ∙ sym (depth_next (range_moves_at bs) i) in
     let mv : after (shape o).verdicts v ≡ depth (verdict_moves_at bs) (i + 1) = ap (after (shape o).verdicts) s.verdicts ∙ ap (λ p. after (on_verdicts p) (depth (verdict_moves_at bs) i)) (sym known) ∙ sym (depth_next (verdict_moves_at bs) i) in
-    let b = argument_at bs i in
     let keep : (a : ℕ) → is_on o b Keep a ≡ keeps_at bs a i = λ a. ap (λ p. does_at p b Keep a) (sym known) in
     let read : (a : ℕ) → is_on o b Line a ≡ reads_at bs a i = λ a. ap (λ p. does_at p b Line a) (sym known) in
     record {
-      unbroken = below_next (instruction_refusal bs) i None s.unbroken (ruled bs s ∙ ap (λ p. broken_by (constant_count bs) i p b r v) known ∙ fine);
-      ranges = er.0 ∙ mr;
-      most_ranges = er.1 ∙ ap (max rs) mr ∙ ap (λ g. max g (depth (range_moves_at bs) (i + 1))) s.most_ranges ∙ sym (greatest_next (range_moves_at bs) i);
-      few_ranges = omega (arith, s.few_ranges, er.0, few.0);
-      verdicts = ev.0 ∙ mv;
-      most_verdicts = ev.1 ∙ ap (max vs) mv ∙ ap (λ g. max g (depth (verdict_moves_at bs) (i + 1))) s.most_verdicts ∙ sym (greatest_next (verdict_moves_at bs) i);
-      few_verdicts = omega (arith, s.few_verdicts, ev.0, few.1);
-      keeps = λ a. ek a ∙ ap (λ x. x || is_on o b Keep a) (s.keeps a) ∙ ap (λ x. any_below (keeps_at bs a) i || x) (keep a) ∙ sym (any_next (keeps_at bs a) i);
-      reads_first = λ a. ed a ∙ ap (λ x. x || (is_on o b Line a && not (get_or kept a false))) (s.reads_first a) ∙ ap (λ x. first_read (reads_at bs a) (keeps_at bs a) i || (x && not (get_or kept a false))) (read a) ∙ ap (λ x. first_read (reads_at bs a) (keeps_at bs a) i || (reads_at bs a i && not x)) (s.keeps a) ∙ sym (any_next (λ j. reads_at bs a j && not (any_below (keeps_at bs a) j)) i);
+      unbroken = below_next (instruction_refusal bs) i None s.unbroken (ruled bs i t s ∙ ap (λ p. broken_by (constant_count bs) i p b r v) known ∙ fine);
+      ranges = x.range_depth ∙ mr;
+      most_ranges = x.greatest_range_depth ∙ ap (max t.ranges.greatest) mr ∙ ap (λ g. max g (depth (range_moves_at bs) (i + 1))) s.most_ranges ∙ sym (greatest_next (range_moves_at bs) i);
+      few_ranges = omega (arith, s.few_ranges, x.range_depth, few.0);
+      verdicts = x.verdict_depth ∙ mv;
+      most_verdicts = x.greatest_verdict_depth ∙ ap (max t.verdicts.greatest) mv ∙ ap (λ g. max g (depth (verdict_moves_at bs) (i + 1))) s.most_verdicts ∙ sym (greatest_next (verdict_moves_at bs) i);
+      few_verdicts = omega (arith, s.few_verdicts, x.verdict_depth, few.1);
+      lines = λ a.
+          let f = first_read (reads_at bs a) (keeps_at bs a) i in
+          let k = any_below (keeps_at bs a) i in
+          x.first_uses a
+          ∙ ap (λ q. used q (is_on o b Line a) (is_on o b Keep a)) (s.lines a)
+          ∙ ap (λ q. used (first_use f k) q (is_on o b Keep a)) (read a)
+          ∙ ap (used (first_use f k) (reads_at bs a i)) (keep a)
+          ∙ used_after f k (reads_at bs a i) (keeps_at bs a i)
+          ∙ ap (λ q. first_use q (k || keeps_at bs a i)) (sym (any_next (λ j. reads_at bs a j && not (any_below (keeps_at bs a) j)) i))
+          ∙ ap (first_use (first_read (reads_at bs a) (keeps_at bs a) (i + 1))) (sym (any_next (keeps_at bs a) i));
     }
+
+-- what is told of a first use
+pub read_first : (f k : Bool) → is_read (first_use f k) ≡ f
+read_first true k = refl
+read_first false true = refl
+read_first false false = refl

@@ -1,19 +1,13 @@
 -- A file: free bytes, constants of 8 bytes, instructions of 2, and a trailer of 12 at the end. Numbers have their lowest byte first. Assumes nothing.
-use Rattle.std.specs.Prelude.{ℕ, ◌+◌, ◌-◌, ◌*◌, List, length, Option, slice_index}
-use Rattle.std.specs.Int.{w32}
-use Rattle.std.proofs.Common.{to_z}
+use Rattle.std.specs.Prelude.{ℕ, ◌+◌, ◌-◌, ◌*◌, List, length, drop, Option, slice_index}
+use Rattle.std.specs.Simd.{first_chunks}
 use Rattle.number.specs.declared.Fraction.{Fraction}
+pub use Rattle.number.specs.Bytes.{word_at, fraction_at}
 use Rattle.sheet.specs.declared.operation.Operation.{Operation}
 use Rattle.sheet.specs.Operations.{operation_of}
 
 abbrev pub half_at : List ℕ → ℕ → ℕ
 half_at bs i = slice_index bs i + slice_index bs (i + 1) * 256
-
-abbrev pub word_at : List ℕ → ℕ → ℕ
-word_at bs i = slice_index bs i + slice_index bs (i + 1) * 256 + slice_index bs (i + 2) * 65536 + slice_index bs (i + 3) * 16777216
-
-abbrev pub fraction_at : List ℕ → ℕ → Fraction
-fraction_at bs i = record { p = to_z w32 (word_at bs i); q = word_at bs (i + 4) }
 
 -- the trailer: the distances of the first constant and of the first instruction from the end, and the counts of both
 unfoldable pub constant_distance_of : List ℕ → ℕ
@@ -34,6 +28,13 @@ constants_start bs = length bs - constant_distance_of bs
 
 unfoldable pub instructions_start : List ℕ → ℕ
 instructions_start bs = length bs - instruction_distance_of bs
+
+-- both in their bytes
+abbrev pub constants_in : List ℕ → List (List ℕ)
+constants_in bs = first_chunks 8 (constant_count bs) (drop (constants_start bs) bs)
+
+abbrev pub instructions_in : List ℕ → List (List ℕ)
+instructions_in bs = first_chunks 2 (instruction_count bs) (drop (instructions_start bs) bs)
 
 -- the constant c
 abbrev pub constant : List ℕ → ℕ → Fraction

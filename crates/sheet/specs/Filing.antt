@@ -1,11 +1,10 @@
 -- Which files are filed: the rules in their order. Assumes nothing.
-use Rattle.std.specs.Prelude.{◌≡◌, ℕ, ◌+◌, ◌*◌, ◌≤◌, ◌&&◌, List, length, None, Option, nat_le}
+use Rattle.std.specs.Prelude.{ℕ, ◌+◌, ◌*◌, ◌&&◌, List, length, None, Option, nat_le}
 use Rattle.fault.specs.declared.Refusal.{Refusal}
 use Rattle.sheet.specs.declared.faults.FilingFault.TheVariants.{Length, ConstantCount, InstructionCount, InstructionDistance, ConstantDistance}
-use Rattle.sheet.specs.declared.layout.Layout.{Layout}
 use Rattle.sheet.specs.Faults.{filing_refusal}
 use Rattle.sheet.specs.Rules.{unless}
-use Rattle.sheet.specs.Files.{constant_distance_of, instruction_distance_of, constant_count, instruction_count, constants_start, instructions_start}
+use Rattle.sheet.specs.Files.{constant_distance_of, instruction_distance_of, constant_count, instruction_count}
 
 -- the rules on the trailer of a file of this length: the distances of the constants and of the instructions, and their counts
 abbrev pub trailer_refusal : ℕ → ℕ → ℕ → ℕ → ℕ → Option Refusal
@@ -20,10 +19,3 @@ abbrev pub filing : List ℕ → Option Refusal
 filing bs =
     unless (nat_le 12 (length bs) && nat_le (length bs) 32768) (filing_refusal (Length (length bs)))
     (trailer_refusal (length bs) (constant_distance_of bs) (instruction_distance_of bs) (constant_count bs) (instruction_count bs))
-
--- a layout is what the trailer says, and the parts lie within the file, in their order
-abbrev pub Laid : List ℕ → Layout → Type 0
-Laid bs l =
-    ((length bs ≤ 32768) × (l.constants ≤ 64) × (1 ≤ l.instructions) × (l.instructions ≤ 4096))
-    × ((l.constants ≡ constant_count bs) × (l.instructions ≡ instruction_count bs) × (l.constants_at ≡ constants_start bs) × (l.instructions_at ≡ instructions_start bs))
-    × ((l.constants_at + 8 * l.constants ≤ l.instructions_at) × (l.instructions_at + 2 * l.instructions + 12 ≤ length bs))

@@ -1,31 +1,35 @@
 //! Sheets: a file is filed, then cleared. Each borrows the file's bytes.
-ghost use Rattle.std.specs.Prelude.{◌≡◌, length, Some, None, MatchResult};
-ghost use Rattle.std.specs.List.{slice_get};
-ghost use Rattle.sheet.specs.Faults.{filing_refusal, clearing_refusal};
+ghost use Rattle.std.specs.Prelude.{◌≡◌, false, is_some};
+ghost use Rattle.sheet.specs.Files.{constants_in, instructions_in};
 ghost use Rattle.sheet.specs.Filing.{filing};
 ghost use Rattle.sheet.specs.Clearing.{clearing};
-ghost use Rattle.sheet.specs.Depths.{greatest_range_depth, greatest_verdict_depth};
-ghost use Rattle.sheet.specs.Lines.{reads_first};
-ghost use Rattle.sheet.specs.Workable.{Workable};
-ghost use Rattle.sheet.specs.Held.{filed_bytes, cleared_bytes, instructions_of};
+ghost use Rattle.sheet.specs.Tallies.{Tallied};
 
-use crate::cleared::Cleared;
-use crate::clearing::look_through;
 use crate::faults::{ClearingFault, FilingFault};
-use crate::filed::{Filed, lay_out};
+use crate::filed::{Trailer, chunks_at};
 use crate::instruction::Instruction;
-use kept::Kept;
+use crate::instructions::Instructions;
+use crate::operation::Operation;
+use crate::tally::Tally;
 
 /// A file whose parts lie where its trailer says.
 #[derive(Drop)]
 pub struct FiledSheet<'a> {
-    kept: Kept<Filed<'a>>,
+    pub(crate) bytes: &'a [u8],
+    pub(crate) constants: &'a [[u8; 8]],
+    pub(crate) instructions: &'a [[u8; 2]],
+    ghost filed: { is_some (filing bytes.now) ≡ false },
+    ghost constants_laid: { constants.now ≡ constants_in bytes.now },
+    ghost instructions_laid: { instructions.now ≡ instructions_in bytes.now },
 }
 
 /// A filed sheet that keeps the rules on constants and instructions: it can be worked.
 #[derive(Drop)]
 pub struct ClearedSheet<'a> {
-    kept: Kept<Cleared<'a>>,
+    sheet: FiledSheet<'a>,
+    tally: Tally,
+    ghost cleared: { is_some (clearing sheet.bytes.now) ≡ false },
+    ghost tallied: { Tallied sheet.bytes.now tally },
 }
 
 /// A sheet that is not cleared: still filed, as it was, and the first rule that it breaks.
@@ -36,25 +40,40 @@ pub struct Uncleared<'a> {
 }
 
 impl<'a> FiledSheet<'a> {
+    ghost use Rattle.std.specs.Prelude.{Some, None, MatchResult};
+    ghost use Rattle.sheet.specs.Faults.{filing_refusal, clearing_refusal};
+    ghost use Rattle.sheet.specs.Workable.{Workable};
+    ghost use Rattle.sheet.specs.Held.{filed_bytes, cleared_bytes, instructions_of};
+
     /// Files the bytes, or tells the first rule that they break.
+    #[tactic(auto, using(crate::proofs::Accepted::lies), unfolding(crate::specs::Files::constants_start, crate::specs::Files::instructions_start))]
     pub fn file(bytes: &'a [u8]) -> Result<FiledSheet<'a>, FilingFault>
         ensures { MatchResult result (λ s. (filing bytes.now ≡ None) × (filed_bytes s ≡ bytes.now)) (λ f. filing bytes.now ≡ Some (filing_refusal f)) }
     {
-        let layout = lay_out(bytes)?;
-        let kept = Kept::new(Filed::new(bytes, layout));
-        Ok(FiledSheet { kept })
+        let length = bytes.len();
+        let trailer = Trailer::of(bytes)?;
+        trailer.check(length)?;
+        Ok(FiledSheet {
+            bytes,
+            constants: chunks_at(
+                bytes,
+                length - trailer.constant_distance as usize,
+                usize::from(trailer.constants),
+            ),
+            instructions: chunks_at(
+                bytes,
+                length - trailer.instruction_distance as usize,
+                usize::from(trailer.instructions),
+            ),
+        })
     }
 
     /// Clears the sheet, or hands it back with the first rule that it breaks.
     pub fn clear(self) -> Result<ClearedSheet<'a>, Uncleared<'a>>
         ensures { MatchResult result (λ s. (clearing (filed_bytes self.entry) ≡ None) × (cleared_bytes s ≡ filed_bytes self.entry) × Workable (instructions_of s)) (λ u. (clearing (filed_bytes self.entry) ≡ Some (clearing_refusal u.fault)) × (filed_bytes u.sheet ≡ filed_bytes self.entry)) }
     {
-        let filed = self.kept.get();
-        match look_through(filed.bytes, filed.layout) {
-            Ok(tally) => {
-                let kept = Kept::new(Cleared::new(self.kept.into_inner(), tally));
-                Ok(ClearedSheet { kept })
-            }
+        match self.look_through() {
+            Ok(tally) => Ok(ClearedSheet { sheet: self, tally }),
             Err(fault) => Err(Uncleared { sheet: self, fault }),
         }
     }
@@ -63,28 +82,42 @@ impl<'a> FiledSheet<'a> {
     pub fn into_bytes(self) -> &'a [u8]
         ensures { result.now ≡ filed_bytes self.entry }
     {
-        let filed = self.kept.into_inner();
-        filed.into_bytes()
+        self.bytes
     }
 }
 
 impl<'a> ClearedSheet<'a> {
+    ghost use Rattle.std.specs.Prelude.{length};
+    ghost use Rattle.std.specs.List.{slice_get};
+    ghost use Rattle.sheet.specs.Depths.{greatest_range_depth, greatest_verdict_depth};
+    ghost use Rattle.sheet.specs.Lines.{reads_first};
+    ghost use Rattle.sheet.specs.Held.{cleared_bytes, instructions_of, instructions_left};
+
     /// How many instructions there are.
     pub fn len(&self) -> usize
         ensures { result ≡ length (instructions_of self.now) }
     {
-        self.kept.get().len()
+        self.sheet.instructions.len()
     }
 
     /// The instruction at the index; none from the end on.
+    #[tactic(auto, using(crate::proofs::Reading::past, crate::proofs::Reading::constant_there, crate::proofs::Reading::found))]
     pub fn instruction(&self, i: usize) -> Option<Instruction>
         ensures { result ≡ slice_get (instructions_of self.now) i }
     {
-        let sheet = self.kept.get();
-        if i < sheet.layout.instructions {
-            Some(sheet.instruction(i))
-        } else {
-            None
+        let [byte, argument] = *self.sheet.instructions.get(i)?;
+        // clearing has found an operation at every instruction
+        let operation = Operation::try_from(byte).unwrap();
+        Some(Instruction::of(operation, argument, self.sheet.constants))
+    }
+
+    /// The instructions in turn.
+    pub fn instructions(&self) -> Instructions<'_>
+        ensures { instructions_left result ≡ instructions_of self.now }
+    {
+        Instructions {
+            sheet: self,
+            next: 0,
         }
     }
 
@@ -92,28 +125,27 @@ impl<'a> ClearedSheet<'a> {
     pub fn range_depth(&self) -> usize
         ensures { result ≡ greatest_range_depth (instructions_of self.now) }
     {
-        self.kept.get().tally.range_depth
+        self.tally.ranges.greatest
     }
 
     /// The greatest depth of the pile of verdicts.
     pub fn verdict_depth(&self) -> usize
         ensures { result ≡ greatest_verdict_depth (instructions_of self.now) }
     {
-        self.kept.get().tally.verdict_depth
+        self.tally.verdicts.greatest
     }
 
     /// Whether the sheet reads the line before it keeps it.
     pub fn reads(&self, line: u8) -> bool
         ensures { result ≡ reads_first (instructions_of self.now) line }
     {
-        self.kept.get().reads(line)
+        self.tally.reads_first(line)
     }
 
     /// The bytes, back again.
     pub fn into_bytes(self) -> &'a [u8]
         ensures { result.now ≡ cleared_bytes self.entry }
     {
-        let cleared = self.kept.into_inner();
-        cleared.into_bytes()
+        self.sheet.into_bytes()
     }
 }
