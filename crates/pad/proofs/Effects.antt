@@ -1,6 +1,7 @@
 -- What an instruction does to the depths of the piles and to which lines are set, in whichever reading. Assumes nothing.
 use Rattle.std.proofs.Common.{◌≡◌, ℕ, zero, suc, ◌+◌, ◌-◌, ◌<◌, Bool, true, false, ◌&&◌, ◌||◌, List, [], ◌∷◌, length, get_or, set, is_some, Some, None, Option, sym, refl, ap, ◌∙◌, subst, arith, length-set}
 use Rattle.std.proofs.lemmas.Bool.{false≢true, eqb-true}
+use Rattle.std.proofs.lemmas.List.{get_or-set_same}
 use Rattle.number.specs.Number.{Number}
 use Rattle.number.specs.Place.{Sums, Differences, Products, Quotients}
 use Rattle.range.specs.declared.range.Range.{Range}
@@ -33,9 +34,7 @@ still_set (x ∷ cells) (suc a) zero r e = e
 still_set (x ∷ cells) (suc a) (suc b) r e = still_set cells a b r e
 
 now_set : {A : Type 0} (cells : List (Option A)) (a : ℕ) (r : A) → a < length cells → is_some (get_or (set cells a (Some r)) a None) ≡ true
-now_set [] a r h = absurd (omega arith)
-now_set (x ∷ cells) zero r h = refl
-now_set (x ∷ cells) (suc a) r h = now_set cells a r (omega arith)
+now_set cells a r h = ap is_some (get_or-set_same cells a (Some r) None h)
 
 -- the board stays as it is
 module _ (x : Instruction) (s t : State) (other : (a : ℕ) → keeps (Some x) a ≡ false) where

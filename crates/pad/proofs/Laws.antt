@@ -1,24 +1,17 @@
 -- Laws of the calls of a pad: what a call does by the rule that it breaks, and what its answer tells. Assumes nothing.
 use Rattle.std.proofs.Common.{◌≡◌, ℕ, ◌≤◌, Bool, List, map, get_or, ℤ, is_some, Some, None, Option, sym, refl, ap, ◌∙◌, subst, arith}
 use Rattle.std.proofs.lemmas.Bool.{le-leb}
+use Rattle.std.proofs.Math.ListN.{get_or-map}
 use Rattle.fault.specs.declared.Refusal.{Refusal}
 use Rattle.sheet.specs.Rules.{unless}
 use Rattle.number.specs.Place.{Place}
 use Rattle.pad.specs.declared.board.Board.{Board}
 use Rattle.pad.specs.declared.faults.PadFault.{PadFault}
 use Rattle.pad.specs.declared.faults.PadFault.TheVariants.{Unset}
-use Rattle.pad.specs.Calls.{Call, enter, work, show_line, show_flag, wipe, Answer, refused, refusal_at, Accepted, Does, DoesBy}
+use Rattle.pad.specs.Calls.{Call, enter, work, show_line, show_flag, wipe, Answer, refusal_at, Accepted, Does, DoesBy}
 use Rattle.pad.specs.Faults.{pad_refusal}
 use Rattle.pad.specs.Promises.{refusal_in}
 use Rattle.pad.specs.Refusals.{show_refusal}
-use Rattle.pad.proofs.Unset.{set_at}
-
-module _ (p : ℤ → Place) (call : Call) (b : Board) where
-  pub does_refused : (f : Refusal) → refusal_at call b ≡ Some f → Does p call b (refused f) b
-  does_refused f e = subst (λ o. DoesBy p o call b (refused f) b) (sym e) (refl, refl)
-
-  pub does_accepted : (ans : Answer) (c : Board) → refusal_at call b ≡ None → Accepted p call b ans c → Does p call b ans c
-  does_accepted ans c e h = subst (λ o. DoesBy p o call b ans c) (sym e) h
 
 -- an accepted call answers no refusal
 accepted_answer : (p : ℤ → Place) (call : Call) (b : Board) (ans : Answer) (c : Board) → Accepted p call b ans c → refusal_in ans ≡ None
@@ -47,7 +40,7 @@ is_none (Some x) r f e = let z : ◌≡◌ {A = ℕ} 0 1 = cc in absurd (omega a
 -- the rules of a show of a cell that is there, by whether it is set
 module _ {A : Type 0} (missing : PadFault) (cells : List (Option A)) (n : ℕ) (h : n ≤ 31) where
   pub show_rule : (s : Bool) → is_some (get_or cells n None) ≡ s → show_refusal missing n (map is_some cells) ≡ unless s (pad_refusal (Unset n)) None
-  show_rule s e = (λ i. unless (le-leb n 31 h i) (pad_refusal missing) (unless ((set_at cells n ∙ e) i) (pad_refusal (Unset n)) None))
+  show_rule s e = (λ i. unless (le-leb n 31 h i) (pad_refusal missing) (unless ((get_or-map is_some cells n None ∙ e) i) (pad_refusal (Unset n)) None))
 
   -- it is refused only where it is unset
   pub show_unset : (f : Refusal) → show_refusal missing n (map is_some cells) ≡ Some f → get_or cells n None ≡ None

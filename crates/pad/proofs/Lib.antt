@@ -1,4 +1,3 @@
-pub mod Piles
 pub mod Effects
 pub mod Unset
 pub mod Going

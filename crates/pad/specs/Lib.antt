@@ -4,6 +4,7 @@ pub mod Piles
 pub mod Boards
 pub mod Refusals
 pub mod Working
+pub mod Machines
 pub mod Ready
 pub mod Calls
 pub mod Space

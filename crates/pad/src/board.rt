@@ -1,15 +1,16 @@
 //! The board of a pad: its lines and flags.
-ghost use Rattle.std.specs.Prelude.{◌≡◌, ◌≤◌, length};
+ghost use Rattle.std.specs.Prelude.{◌≡◌};
 ghost use Rattle.pad.specs.Boards.{fresh, line_at, flag_at, with_line, with_flag};
 
+use crate::cell_index::CellIndex;
 use crate::table::Table;
 use range::{Range, Verdict};
 
 /// Lines 0 to 31 and flags 0 to 31, each set to something or unset.
 #[derive(Drop)]
 pub struct Board {
-    lines: Table<Option<Range>>,
-    flags: Table<Option<Verdict>>,
+    lines: Table<Range>,
+    flags: Table<Verdict>,
 }
 
 impl Board {
@@ -18,41 +19,37 @@ impl Board {
         ensures { result ≡ fresh }
     {
         Board {
-            lines: Table::of(None),
-            flags: Table::of(None),
+            lines: Table::new(),
+            flags: Table::new(),
         }
     }
 
+    // two names for each of the two tables: a line is kept and a flag is marked
     /// The range of a line, if it is set.
-    pub(crate) fn line(&self, a: u8) -> Option<Range>
-        requires { a ≤ 31 }
-        ensures value { result ≡ line_at self.now a }
-        ensures whole { length self.now.lines.cells ≡ 32 }
+    pub(crate) fn line(&self, a: CellIndex) -> Option<Range>
+        ensures { result ≡ line_at self.now a.at }
     {
-        self.lines.cells[a as usize]
+        self.lines.get(a)
     }
 
     /// The verdict of a flag, if it is set.
-    pub(crate) fn flag(&self, a: u8) -> Option<Verdict>
-        requires { a ≤ 31 }
-        ensures { result ≡ flag_at self.now a }
+    pub(crate) fn flag(&self, a: CellIndex) -> Option<Verdict>
+        ensures { result ≡ flag_at self.now a.at }
     {
-        self.flags.cells[a as usize]
+        self.flags.get(a)
     }
 
     /// Sets that one line and no other.
-    pub(crate) fn keep(&mut self, a: u8, r: Range)
-        requires { a ≤ 31 }
-        ensures { self.new ≡ with_line self.old a r }
+    pub(crate) fn keep(&mut self, a: CellIndex, r: Range)
+        ensures { self.new ≡ with_line self.old a.at r }
     {
-        *self.lines.at(a as usize) = Some(r);
+        self.lines.set(a, r);
     }
 
     /// Sets that one flag and no other.
-    pub(crate) fn mark(&mut self, a: u8, v: Verdict)
-        requires { a ≤ 31 }
-        ensures { self.new ≡ with_flag self.old a v }
+    pub(crate) fn mark(&mut self, a: CellIndex, v: Verdict)
+        ensures { self.new ≡ with_flag self.old a.at v }
     {
-        *self.flags.at(a as usize) = Some(v);
+        self.flags.set(a, v);
     }
 }

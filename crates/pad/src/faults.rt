@@ -29,12 +29,12 @@ impl Fault for PadFault {
 
     fn refusal(&self) -> Refusal {
         match self {
-            PadFault::NoLine(line) => Refusal::new(Layer::Pad, 9, *line as u64),
-            PadFault::NoFlag(flag) => Refusal::new(Layer::Pad, 9, *flag as u64),
+            PadFault::NoLine(line) => Refusal::new(Layer::Pad, 9, u64::from(*line)),
+            PadFault::NoFlag(flag) => Refusal::new(Layer::Pad, 9, u64::from(*flag)),
             PadFault::LowerBound => Refusal::new(Layer::Pad, 10, 0),
             PadFault::UpperBound => Refusal::new(Layer::Pad, 10, 1),
-            PadFault::Crossed(line) => Refusal::new(Layer::Pad, 11, *line as u64),
-            PadFault::Unset(at) => Refusal::new(Layer::Pad, 14, *at as u64),
+            PadFault::Crossed(line) => Refusal::new(Layer::Pad, 11, u64::from(*line)),
+            PadFault::Unset(at) => Refusal::new(Layer::Pad, 14, u64::from(*at)),
             PadFault::RangeSlots(needed) => Refusal::new(Layer::Pad, 15, *needed as u64),
             PadFault::VerdictSlots(needed) => Refusal::new(Layer::Pad, 16, *needed as u64),
         }

@@ -3,6 +3,7 @@
 
 pub(crate) mod admission;
 pub(crate) mod board;
+pub(crate) mod cell_index;
 mod faults;
 mod pad;
 pub(crate) mod pile;

@@ -6,11 +6,11 @@ ghost use Rattle.pad.specs.Pads.{scale_of, board_of};
 ghost use Rattle.pad.specs.Promises.{Promises};
 ghost use Rattle.pad.specs.Space.{Left};
 
-use crate::admission::{LAST, admit};
+use crate::admission::admitted;
 use crate::board::Board;
+use crate::cell_index::CellIndex;
 use crate::faults::PadFault;
-use crate::pile::Pile;
-use crate::working::{check_work, work_through};
+use crate::working::{Machine, check_work};
 use range::{Entry, Range, Verdict};
 use scale::ArithmeticScale;
 use sheet::ClearedSheet;
@@ -22,6 +22,7 @@ pub struct Pad<S> {
     board: Board,
 }
 
+// each call says that the scale stays: through `&mut self` it could change any field
 impl<S: ArithmeticScale> Pad<S> {
     /// A pad with nothing set. What is promised of it holds after each call of every run.
     pub fn new(scale: S) -> Pad<S>
@@ -35,13 +36,20 @@ impl<S: ArithmeticScale> Pad<S> {
         }
     }
 
+    /// The scale of the pad.
+    pub fn scale(&self) -> &S
+        ensures { result.now ≡ scale_of self.now }
+    {
+        &self.scale
+    }
+
     /// Enters into the line: it becomes the hull of the numbers within the bounds.
     pub fn enter(&mut self, line: u8, entry: Entry) -> Result<(), PadFault>
         ensures does { Does (S.place (scale_of self.old)) (enter line entry) (board_of self.old) (answer (λ _. done) result) (board_of self.new) }
         ensures scale { scale_of self.new ≡ scale_of self.old }
     {
-        admit(line, entry)?;
-        self.board.keep(line, entry.hull(&self.scale));
+        let index = admitted(line, entry)?;
+        self.board.keep(index, entry.hull(&self.scale));
         Ok(())
     }
 
@@ -57,17 +65,9 @@ impl<S: ArithmeticScale> Pad<S> {
         ensures scale { scale_of self.new ≡ scale_of self.old }
     {
         check_work(sheet, &self.board, ranges.len(), verdicts.len())?;
-        let mut range_pile = Pile::over(ranges);
-        let mut verdict_pile = Pile::over(verdicts);
-        work_through(
-            &self.scale,
-            sheet,
-            &mut self.board,
-            &mut range_pile,
-            &mut verdict_pile,
-        );
-        range_pile.end(Range::blank());
-        verdict_pile.end(Verdict::Void);
+        Machine::new(&self.scale, ranges, verdicts).work(&mut self.board, sheet);
+        ranges.fill(Range::blank());
+        verdicts.fill(Verdict::Void);
         Ok(())
     }
 
@@ -75,30 +75,17 @@ impl<S: ArithmeticScale> Pad<S> {
     pub fn show_line(&self, line: u8) -> Result<Option<Range>, PadFault>
         ensures { Does (S.place (scale_of self.now)) (show_line line) (board_of self.now) (answer line_shown result) (board_of self.now) }
     {
-        if line > LAST {
-            return Err(PadFault::NoLine(line));
-        }
-        let Some(range) = self.board.line(line) else {
-            return Err(PadFault::Unset(line));
-        };
-        if range.is_blank(&self.scale) {
-            Ok(None)
-        } else {
-            Ok(Some(range))
-        }
+        let index = CellIndex::new(line).ok_or(PadFault::NoLine(line))?;
+        let range = self.board.line(index).ok_or(PadFault::Unset(line))?;
+        Ok((!range.is_blank(&self.scale)).then_some(range))
     }
 
     /// The verdict of the flag.
     pub fn show_flag(&self, flag: u8) -> Result<Verdict, PadFault>
         ensures { Does (S.place (scale_of self.now)) (show_flag flag) (board_of self.now) (answer flag_shown result) (board_of self.now) }
     {
-        if flag > LAST {
-            return Err(PadFault::NoFlag(flag));
-        }
-        let Some(verdict) = self.board.flag(flag) else {
-            return Err(PadFault::Unset(flag));
-        };
-        Ok(verdict)
+        let index = CellIndex::new(flag).ok_or(PadFault::NoFlag(flag))?;
+        self.board.flag(index).ok_or(PadFault::Unset(flag))
     }
 
     /// Unsets every line and flag.

@@ -47,54 +47,37 @@ mod tests {
     // No line and no flag.
     const NONE: u8 = 32;
 
-    // The part, where it fits.
-    fn put(bytes: &mut [u8], at: usize, part: &[u8]) {
-        for i in 0..part.len() {
-            let to = at.wrapping_add(i);
-            if to < bytes.len() {
-                bytes[to] = part[i];
-            }
-        }
-    }
+    // The constants 3 and 1/3.
+    const CONSTANTS: [u8; 16] = [3, 0, 0, 0, 1, 0, 0, 0, 1, 0, 0, 0, 3, 0, 0, 0];
 
-    // One instruction after the other, where they fit.
-    fn put_instructions(bytes: &mut [u8], at: usize, instructions: &[[u8; 2]]) {
-        for i in 0..instructions.len() {
-            let [operation, argument] = instructions[i];
-            put(
-                bytes,
-                at.wrapping_add(i.wrapping_mul(2)),
-                &[operation, argument],
-            );
-        }
+    // The trailer of a file with two constants before so many instructions.
+    fn trailer(n: u8) -> [u8; 12] {
+        let far = 12 + 2 * u32::from(n);
+        let [i0, i1, i2, i3] = far.to_le_bytes();
+        let [c0, c1, c2, c3] = (far + 16).to_le_bytes();
+        [c0, c1, c2, c3, i0, i1, i2, i3, 2, 0, n, 0]
     }
 
     // A file of 96 bytes with the constants 3 and 1/3 before the instructions.
     fn file(instructions: &[[u8; 2]]) -> [u8; 96] {
         let mut bytes = [0; 96];
-        let n = instructions.len() & 0xff;
-        let start = 84usize.wrapping_sub(2 * n);
-        let far = 12 + 2 * n as u32;
-        put_instructions(&mut bytes, start, instructions);
-        put(
-            &mut bytes,
-            start.wrapping_sub(16),
-            &[3, 0, 0, 0, 1, 0, 0, 0, 1, 0, 0, 0, 3, 0, 0, 0],
-        );
-        put(&mut bytes, 84, &(far + 16).to_le_bytes());
-        put(&mut bytes, 88, &far.to_le_bytes());
-        put(&mut bytes, 92, &2u16.to_le_bytes());
-        put(&mut bytes, 94, &(n as u16).to_le_bytes());
+        let trailer = trailer(u8::try_from(instructions.len()).unwrap_or(0));
+        let parts = CONSTANTS
+            .iter()
+            .chain(instructions.as_flattened())
+            .chain(&trailer);
+        // the last byte first, so that the unused ones come before the parts
+        for (to, from) in bytes.iter_mut().rev().zip(parts.rev()) {
+            *to = *from;
+        }
         bytes
     }
 
-    fn told<T>(answer: Result<T, PadFault>) -> Result<T, Refusal> {
-        match answer {
-            Ok(x) => Ok(x),
-            Err(fault) => Err(fault.refusal()),
-        }
+    fn told<T, F: Fault + Drop>(answer: Result<T, F>) -> Result<T, Refusal> {
+        answer.map_err(|fault| fault.refusal())
     }
 
+    // the number as it is documented
     fn refused<T>(number: u8, place: u64) -> Result<T, Refusal> {
         Err(Refusal::new(Layer::Pad, number, place))
     }
@@ -106,15 +89,12 @@ mod tests {
         verdicts: &mut [Verdict],
     ) -> Result<(), Refusal> {
         let bytes = file(instructions);
-        match FiledSheet::file(&bytes) {
-            Ok(filed) => match filed.clear() {
-                Ok(sheet) => told(pad.work(&sheet, ranges, verdicts)),
-                Err(uncleared) => Err(uncleared.fault.refusal()),
-            },
-            Err(fault) => Err(fault.refusal()),
-        }
+        let filed = told(FiledSheet::file(&bytes))?;
+        let sheet = told(filed.clear().map_err(|uncleared| uncleared.fault))?;
+        told(pad.work(&sheet, ranges, verdicts))
     }
 
+    // `range` and `fraction` stand in the tests of ranges too, since a test crate can import no other's private functions; the short name keeps a row on its line
     fn range(lower: i64, upper: i64) -> Range {
         Range::new(lower, upper)
     }
@@ -140,13 +120,14 @@ mod tests {
     }
 
     // Every line and flag is unset, but for one line and one flag.
+    // The runtime is a parameter beside the pad, since it comes first in every assertion.
     fn all_unset_but<S: ArithmeticScale>(rt: &impl Abort, pad: &Pad<S>, l: u8, f: u8) {
         for a in 0..32u8 {
             if a != l {
-                assert_eq!(rt; line(pad, a), refused(14, a as u64));
+                assert_eq!(rt; line(pad, a), refused(14, u64::from(a)));
             }
             if a != f {
-                assert_eq!(rt; flag(pad, a), refused(14, a as u64));
+                assert_eq!(rt; flag(pad, a), refused(14, u64::from(a)));
             }
         }
     }
@@ -297,8 +278,8 @@ mod tests {
         let mut ranges = [range(1, 2); 4];
         let mut verdicts = [Verdict::Open; 3];
         assert_eq!(rt; work(pad, &SHEET, &mut ranges, &mut verdicts), Ok(()));
-        for a in 0..7u8 {
-            assert_eq!(rt; line(pad, a), Ok(Some(lines[a as usize])));
+        for (a, expected) in (0..7).zip(lines) {
+            assert_eq!(rt; line(pad, a), Ok(Some(expected)));
         }
         assert_eq!(rt; line(pad, 7), refused(14, 7));
         assert_eq!(rt; flag(pad, 7), Ok(Verdict::Impossible));
@@ -347,17 +328,15 @@ mod tests {
     ) -> Result<(), Fail> {
         assert_eq!(rt; enter(pad, 0, between(1, 2)), Ok(()));
         let bytes = file(&[[LINE, 0], [CONSTANT, 1], [PLUS, 0], [KEEP, 0]]);
-        match FiledSheet::file(&bytes)?.clear() {
-            Ok(sheet) => {
-                let mut ranges = [once; 2];
-                assert_eq!(rt; told(pad.work(&sheet, &mut ranges, &mut [])), Ok(()));
-                assert_eq!(rt; line(pad, 0), Ok(Some(once)));
-                assert_eq!(rt; told(pad.work(&sheet, &mut ranges, &mut [])), Ok(()));
-                assert_eq!(rt; line(pad, 0), Ok(Some(twice)));
-                Ok(())
-            }
-            Err(_) => Err(Fail::new("not cleared")),
-        }
+        let Ok(sheet) = FiledSheet::file(&bytes)?.clear() else {
+            return Err(Fail::new("not cleared"));
+        };
+        let mut ranges = [once; 2];
+        assert_eq!(rt; told(pad.work(&sheet, &mut ranges, &mut [])), Ok(()));
+        assert_eq!(rt; line(pad, 0), Ok(Some(once)));
+        assert_eq!(rt; told(pad.work(&sheet, &mut ranges, &mut [])), Ok(()));
+        assert_eq!(rt; line(pad, 0), Ok(Some(twice)));
+        Ok(())
     }
 
     #[test]

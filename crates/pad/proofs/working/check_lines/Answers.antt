@@ -1,42 +1,23 @@
-use Rattle.std.proofs.Common.{◌≡◌, ◌+◌, ◌≤◌, false, not, is_some, None, sym, ap, ◌∙◌, subst, arith}
-use Rattle.sheet.specs.Rules.{first_below}
-use Rattle.sheet.proofs.Firsts.{below_none, below_next, below_later}
+use Rattle.std.proofs.Common.{◌≡◌, true, false, Some, None, rules}
+use Rattle.std.proofs.lemmas.Iterator.{first_from_Range}
+use borrow.Author.Tests.{tests}
 use Rattle.sheet.specs.Held.{instructions_of}
-use Rattle.pad.specs.Boards.{line_at, lines_set}
+use Rattle.pad.specs.Boards.{lines_set}
 use Rattle.pad.specs.Refusals.{unset_refusal}
-use Rattle.pad.proofs.Unset.{is_unset, is_unread, is_set}
+use Rattle.pad.proofs.Unset.{none_below, first_at, wanting, refused_by}
 use Rattle.pad.proofs.working.check_lines.Goals as goal
-use Rattle.pad.proofs.working.check_lines.Goals.{else-is_none-via-then-is_none+else-reads, else-is_none-via-else-is_none}
 
-pub loop-a-init : goal.loop-a-init
-loop-a-init c = (below_none (unset_refusal (instructions_of c.args.sheet.now) (lines_set c.args.board.now)), λ h. absurd (omega arith))
-
-pub returns-then-reads : goal.returns-then-reads
-returns-then-reads c =
+pub returns-in-Some : goal.returns-in-Some
+returns-in-Some c =
     let xs = instructions_of c.args.sheet.now in
     let b = c.args.board.now in
-    let f = unset_refusal xs (lines_set b) in
-    let a = c.loop-a.a in
-    let u : is_some (line_at b a) ≡ false = ap is_some (sym c.line.ensures.value) ∙ c.if-is_none.ensures in
-    let l : a + 1 ≤ 32 = omega arith in
-    below_later f (a + 1) 32 _ (below_next f a _ c.loop-a.invariant.0 (is_unset xs b a (sym c.if-reads.ensures) u)) l
+    let a = c.in-Some.a in
+    let h = first_from_Range _ _ _ (Some a) (λ a. wanting xs b a ≡ true) (λ a. wanting xs b a ≡ false) c.in-Some.ensures.ran (λ a q k. search (rules, tests)) (λ a q k. search (rules, tests)) in
+    first_at (unset_refusal xs (lines_set b)) a 32 _ h.1 (refused_by xs b a true h.2) (λ k l m. refused_by xs b k false (h.3 k l m))
 
-pub loop-a-preserved : goal.loop-a-preserved
-loop-a-preserved c =
+pub returns-in-None : goal.returns-in-None
+returns-in-None c =
     let xs = instructions_of c.args.sheet.now in
     let b = c.args.board.now in
-    let a = c.loop-a.a in
-    let o = ap is_some (sym c.line.ensures.value) in
-    let w = c.line.ensures.whole in
-    let kept : unset_refusal xs (lines_set b) a ≡ None =
-    elim c.else-is_none.branch [
-      | else-is_none-via-then-is_none+else-reads w' ↦ is_unread xs b a (sym w'.reads.ensures ∙ w'.if-reads.false)
-      | else-is_none-via-else-is_none w' ↦ is_set xs b a (o ∙ c.is_none.ensures ∙ ap not w'.if-is_none.false)
-    ] in
-    (below_next (unset_refusal xs (lines_set b)) a None c.loop-a.invariant.0 kept, λ _. w)
-
-pub returns : goal.returns
-returns c =
-    let f = unset_refusal (instructions_of c.args.sheet.now) (lines_set c.args.board.now) in
-    let e : c.loop-a.a ≡ 32 = omega arith in
-    (subst (λ n. first_below f n ≡ None) e c.loop-a.invariant.0, c.loop-a.invariant.1 (omega arith))
+    let h = first_from_Range _ _ _ None (λ a. wanting xs b a ≡ true) (λ a. wanting xs b a ≡ false) c.in-None.ensures.ran (λ a q k. search (rules, tests)) (λ a q k. search (rules, tests)) in
+    none_below (unset_refusal xs (lines_set b)) 32 (λ k l m. refused_by xs b k false (h k l m))
