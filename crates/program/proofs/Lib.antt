@@ -1,1 +1,3 @@
-pub mod Firsts
+pub mod Rules
+pub mod Texts
+pub mod Entries

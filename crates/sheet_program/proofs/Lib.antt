@@ -1,2 +1,0 @@
-mod Rules
-mod Texts
