@@ -1,4 +1,5 @@
 //! A fixed generator, so that every run tries the same cases.
+ghost use Rattle.std.specs.Prelude.{◌≤◌};
 
 /// An xorshift generator; its state is never 0.
 #[derive(Drop)]
@@ -23,7 +24,9 @@ impl Dice {
     }
 
     /// A number below n, or 0.
-    pub fn below(&mut self, n: u64) -> u64 {
+    pub fn below(&mut self, n: u64) -> u64
+        ensures { result ≤ n }
+    {
         (self.next() >> 20).checked_rem(n).unwrap_or(0)
     }
 
@@ -38,11 +41,13 @@ impl Dice {
 
     /// A byte below n, or 0.
     pub fn byte_below(&mut self, n: u8) -> u8 {
-        (self.below(n as u64) & 0xff) as u8
+        self.below(u64::from(n)) as u8
     }
 
     /// An index below n, or 0.
-    pub fn index(&mut self, n: usize) -> usize {
+    pub fn index(&mut self, n: usize) -> usize
+        ensures { result ≤ n }
+    {
         self.below(n as u64) as usize
     }
 
@@ -51,18 +56,12 @@ impl Dice {
     }
 
     pub fn signed(&mut self) -> i32 {
-        i32::from_le_bytes(self.word().to_le_bytes())
+        self.word().cast_signed()
     }
 
-    /// One of the numbers, or 0 where there is none.
-    pub fn one_of(&mut self, numbers: &[i32]) -> i32 {
-        let i = self.index(numbers.len());
-        numbers.get(i).copied().unwrap_or(0)
-    }
-
-    /// One of the words, or 0 where there is none.
-    pub fn word_of(&mut self, words: &[u32]) -> u32 {
-        let i = self.index(words.len());
-        words.get(i).copied().unwrap_or(0)
+    /// One of the items, or the default where there is none.
+    pub fn one_of<T: Copy + Default>(&mut self, items: &[T]) -> T {
+        let i = self.index(items.len());
+        items.get(i).copied().unwrap_or_default()
     }
 }

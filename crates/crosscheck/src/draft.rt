@@ -1,195 +1,202 @@
 //! Sheets to try: a draft gathers constants and instructions, and becomes a file.
 use crate::dice::Dice;
 use crate::entries::fraction;
-use crate::separate::clearing::{Argument, shape_of};
 use crate::separate::entry::Written;
+use crate::separate::operation::{Argument, Operation, Piles};
 use std::alloc::{AllocError, Global};
 
-/// Constants and instructions as bytes, and the depths of the piles after them.
+/// Constants and instructions, and the piles after them.
 #[derive(Drop)]
 pub struct Draft {
-    constants: Vec<u8>,
-    instructions: Vec<u8>,
-    ranges: u64,
-    verdicts: u64,
+    // operands are read from the lines below this one
+    lines: u8,
+    constants: Vec<Written>,
+    instructions: Vec<[u8; 2]>,
+    piles: Piles,
 }
 
-// So many bytes of no meaning.
-fn fill(dice: &mut Dice, bytes: &mut Vec<u8>, count: u64) -> Result<(), AllocError> {
-    for _ in 0..count {
+/// The distances of the two parts from the end of the file, and how many of each there are.
+#[derive(Clone, Copy)]
+pub struct Trailer {
+    pub constants_far: u32,
+    pub instructions_far: u32,
+    pub constants: u16,
+    pub instructions: u16,
+}
+
+/// Appends some bytes of no meaning, fewer than so many.
+pub fn fill(dice: &mut Dice, bytes: &mut Vec<u8>, limit: u64) -> Result<(), AllocError> {
+    for _ in 0..dice.below(limit) {
         bytes.push(dice.byte())?;
     }
     Ok(())
 }
 
-// The length as 32 bits.
-fn short(length: usize) -> u32 {
-    (length & 0xffff_ffff) as u32
+/// The length as a trailer has it.
+pub fn short(length: usize) -> u32 {
+    u32::try_from(length).unwrap_or(u32::MAX)
 }
 
-/// A trailer: two distances and two counts.
-pub fn push_trailer(
-    bytes: &mut Vec<u8>,
-    distances: (u32, u32),
-    k: u16,
-    n: u16,
-) -> Result<(), AllocError> {
-    bytes.extend_from_slice(&distances.0.to_le_bytes())?;
-    bytes.extend_from_slice(&distances.1.to_le_bytes())?;
-    bytes.extend_from_slice(&k.to_le_bytes())?;
-    bytes.extend_from_slice(&n.to_le_bytes())
+// The count as a trailer has it.
+// no generic function for this and the length: each call would have to name the greatest of its type
+fn shorter(count: usize) -> u16 {
+    u16::try_from(count).unwrap_or(u16::MAX)
+}
+
+impl Trailer {
+    /// Appends its bytes.
+    pub fn push_onto(self, bytes: &mut Vec<u8>) -> Result<(), AllocError> {
+        bytes.extend_from_slice(&self.constants_far.to_le_bytes())?;
+        bytes.extend_from_slice(&self.instructions_far.to_le_bytes())?;
+        bytes.extend_from_slice(&self.constants.to_le_bytes())?;
+        bytes.extend_from_slice(&self.instructions.to_le_bytes())
+    }
 }
 
 impl Draft {
-    pub fn new(heap: Global) -> Draft {
+    /// An empty draft, which reads its operands from the lines below the one given.
+    pub fn new(heap: Global, lines: u8) -> Draft {
         Draft {
+            lines,
             constants: Vec::new(heap),
             instructions: Vec::new(heap),
-            ranges: 0,
-            verdicts: 0,
+            piles: Piles::EMPTY,
         }
-    }
-
-    fn constant_count(&self) -> usize {
-        self.constants.len() / 8
     }
 
     /// Adds a constant.
     pub fn add_constant(&mut self, written: Written) -> Result<(), AllocError> {
-        self.constants.extend_from_slice(&written.p.to_le_bytes())?;
-        self.constants.extend_from_slice(&written.q.to_le_bytes())
+        self.constants.push(written)?;
+        Ok(())
     }
 
-    /// Adds an instruction, whatever it is.
-    pub fn add(&mut self, operation: u8, argument: u8) -> Result<(), AllocError> {
-        self.instructions.push(operation)?;
-        self.instructions.push(argument)?;
-        if let Some(shape) = shape_of(operation) {
-            self.ranges = self
-                .ranges
-                .saturating_sub(shape.takes.0)
-                .saturating_add(shape.puts.0);
-            self.verdicts = self
-                .verdicts
-                .saturating_sub(shape.takes.1)
-                .saturating_add(shape.puts.1);
-        }
+    // Adds an instruction.
+    fn add(&mut self, operation: Operation, argument: u8) -> Result<(), AllocError> {
+        self.instructions.push([operation as u8, argument])?;
+        self.piles = self.piles.after(operation.shape());
         Ok(())
     }
 
     // Whether the piles hold what the operation takes.
-    fn holds_operands(&self, operation: u8) -> bool {
-        match shape_of(operation) {
-            Some(shape) => self.ranges >= shape.takes.0 && self.verdicts >= shape.takes.1,
-            None => false,
-        }
+    fn holds_operands(&self, operation: Operation) -> bool {
+        self.piles.hold(operation.shape().takes)
     }
 
     // Puts a constant, often a new one.
     fn add_some_constant(&mut self, dice: &mut Dice) -> Result<(), AllocError> {
-        let count = self.constant_count();
+        let count = self.constants.len();
         if count == 0 || count < 60 && dice.one_in(2) {
             self.add_constant(fraction(dice))?;
         }
-        let i = dice.index(self.constant_count());
-        self.add(0x02, (i & 0x3f) as u8)
+        let i = dice.index(self.constants.len());
+        self.add(Operation::Constant, u8::try_from(i).unwrap_or(0))
     }
 
-    /// Puts a range: one of the first lines, or a constant.
-    pub fn add_operand(&mut self, dice: &mut Dice, lines: u8) -> Result<(), AllocError> {
+    // Puts a range: one of the first lines, or a constant.
+    fn add_operand(&mut self, dice: &mut Dice) -> Result<(), AllocError> {
         if dice.one_in(4) {
             self.add_some_constant(dice)
         } else {
-            self.add(0x01, dice.byte_below(lines))
+            self.add(Operation::Line, dice.byte_below(self.lines))
         }
     }
 
     // Adds the operation, whose operands are there, with an argument that it allows.
-    fn add_allowed(&mut self, dice: &mut Dice, operation: u8, lines: u8) -> Result<(), AllocError> {
+    fn add_allowed(&mut self, dice: &mut Dice, operation: Operation) -> Result<(), AllocError> {
         match operation {
-            0x01 => self.add(0x01, dice.byte_below(lines)),
-            0x02 => self.add_some_constant(dice),
-            0x03 | 0x17 => self.add(operation, dice.byte_below(32)),
+            Operation::Line => self.add(operation, dice.byte_below(self.lines)),
+            Operation::Constant => self.add_some_constant(dice),
+            Operation::Keep | Operation::Flag => self.add(operation, dice.byte_below(32)),
             _ => self.add(operation, 0),
         }
     }
 
-    /// One operation on operands of its own, which are lines and constants.
-    pub fn add_single(
-        &mut self,
-        dice: &mut Dice,
-        operation: u8,
-        lines: u8,
-    ) -> Result<(), AllocError> {
-        let Some(shape) = shape_of(operation) else {
-            return Ok(());
-        };
-        for _ in 0..shape.takes.1 {
-            self.add_operand(dice, lines)?;
-            self.add_operand(dice, lines)?;
-            self.add(dice.byte_below(3).wrapping_add(0x10), 0)?;
+    // Adds one of the comparisons.
+    fn add_comparison(&mut self, dice: &mut Dice) -> Result<(), AllocError> {
+        let comparisons = [Operation::Less, Operation::AtMost, Operation::Equal];
+        self.add(dice.one_of(&comparisons), 0)
+    }
+
+    /// Any operation, on lines and constants.
+    pub fn add_single(&mut self, dice: &mut Dice) -> Result<(), AllocError> {
+        let operation = dice.one_of(&Operation::ALL);
+        let takes = operation.shape().takes;
+        for _ in 0..takes.verdicts {
+            self.add_operand(dice)?;
+            self.add_operand(dice)?;
+            self.add_comparison(dice)?;
         }
-        for _ in 0..shape.takes.0 {
-            self.add_operand(dice, lines)?;
+        for _ in 0..takes.ranges {
+            self.add_operand(dice)?;
         }
-        self.add_allowed(dice, operation, lines)
+        self.add_allowed(dice, operation)
     }
 
     /// So many instructions of any kind.
-    pub fn add_mixed(&mut self, dice: &mut Dice, count: u64, lines: u8) -> Result<(), AllocError> {
+    pub fn add_mixed(&mut self, dice: &mut Dice, count: u64) -> Result<(), AllocError> {
         for _ in 0..count {
-            let operation = dice.byte_below(23).wrapping_add(1);
-            if self.ranges > 40 {
-                self.add(0x03, dice.byte_below(32))?;
+            let operation = dice.one_of(&Operation::ALL);
+            if self.piles.ranges > 40 {
+                self.add(Operation::Keep, dice.byte_below(32))?;
             } else if self.holds_operands(operation) {
-                self.add_allowed(dice, operation, lines)?;
+                self.add_allowed(dice, operation)?;
             } else {
-                self.add_operand(dice, lines)?;
+                self.add_operand(dice)?;
             }
         }
         Ok(())
     }
 
-    /// So many ranges and so many verdicts, left on their piles.
-    pub fn add_deep(&mut self, ranges: u64, verdicts: u64) -> Result<(), AllocError> {
-        for _ in 0..verdicts {
-            self.add(0x01, 0)?;
-            self.add(0x0f, 0)?;
-            self.add(0x12, 0)?;
+    /// As many ranges and verdicts, left on their piles.
+    pub fn add_deep(&mut self, piles: Piles) -> Result<(), AllocError> {
+        for _ in 0..piles.verdicts {
+            self.add(Operation::Line, 0)?;
+            self.add(Operation::Again, 0)?;
+            self.add(Operation::Equal, 0)?;
         }
-        for _ in 0..ranges {
-            self.add(0x01, 1)?;
+        for _ in 0..piles.ranges {
+            self.add(Operation::Line, 1)?;
         }
         Ok(())
     }
 
-    /// Instructions with any bytes, most of them near those that are allowed.
+    // Adds an instruction of any bytes, most of them near those that are allowed.
+    fn add_doubtful(&mut self, dice: &mut Dice) -> Result<(), AllocError> {
+        let byte = dice.byte_below(25);
+        let Ok(operation) = Operation::try_from(byte) else {
+            let argument = dice.byte();
+            if dice.one_in(6) {
+                self.instructions.push([byte, argument])?;
+                return Ok(());
+            }
+            return self.add(Operation::Line, argument & 31);
+        };
+        let argument = match operation.shape().argument {
+            Argument::Unused if !dice.one_in(16) => 0,
+            _ => dice.byte_below(33),
+        };
+        if self.holds_operands(operation) || dice.one_in(6) {
+            self.add(operation, argument)
+        } else {
+            self.add(Operation::Line, argument & 31)
+        }
+    }
+
+    /// So many instructions of any bytes.
     pub fn add_any(&mut self, dice: &mut Dice, count: u64) -> Result<(), AllocError> {
         for _ in 0..count {
-            let operation = dice.byte_below(25);
-            let argument = match shape_of(operation) {
-                Some(shape) => match shape.argument {
-                    Argument::Unused if !dice.one_in(16) => 0,
-                    _ => dice.byte_below(33),
-                },
-                None => dice.byte(),
-            };
-            if self.holds_operands(operation) || dice.one_in(6) {
-                self.add(operation, argument)?;
-            } else {
-                self.add(0x01, argument & 31)?;
-            }
+            self.add_doubtful(dice)?;
         }
         Ok(())
     }
 
     /// Empties both piles into lines and flags.
     pub fn finish(&mut self) -> Result<(), AllocError> {
-        for i in 0..self.ranges {
-            self.add(0x03, (i.wrapping_add(8) & 31) as u8)?;
+        for i in 0..self.piles.ranges {
+            self.add(Operation::Keep, (i.wrapping_add(8) % 32) as u8)?;
         }
-        for i in 0..self.verdicts {
-            self.add(0x17, (i & 31) as u8)?;
+        for i in 0..self.piles.verdicts {
+            self.add(Operation::Flag, (i % 32) as u8)?;
         }
         Ok(())
     }
@@ -197,24 +204,30 @@ impl Draft {
     /// The file, with a few unused bytes.
     pub fn file(&self, heap: Global, dice: &mut Dice) -> Result<Vec<u8>, AllocError> {
         let mut bytes = Vec::new(heap);
-        let free = dice.below(5);
-        fill(dice, &mut bytes, free)?;
+        fill(dice, &mut bytes, 5)?;
         let constants = bytes.len();
-        bytes.extend_from_slice(self.constants.as_slice())?;
-        let gap = dice.below(3);
-        fill(dice, &mut bytes, gap)?;
+        for written in self.constants.iter() {
+            bytes.extend_from_slice(&written.p.to_le_bytes())?;
+            bytes.extend_from_slice(&written.q.to_le_bytes())?;
+        }
+        fill(dice, &mut bytes, 3)?;
         let instructions = bytes.len();
-        bytes.extend_from_slice(self.instructions.as_slice())?;
-        let gap = dice.below(3);
-        fill(dice, &mut bytes, gap)?;
+        bytes.extend_from_slice(self.instructions.as_slice().as_flattened())?;
+        fill(dice, &mut bytes, 3)?;
         let end = bytes.len().wrapping_add(12);
-        let distances = (
-            short(end.wrapping_sub(constants)),
-            short(end.wrapping_sub(instructions)),
-        );
-        let k = (self.constant_count() & 0xffff) as u16;
-        let n = (self.instructions.len() / 2 & 0xffff) as u16;
-        push_trailer(&mut bytes, distances, k, n)?;
+        let trailer = Trailer {
+            constants_far: short(end.wrapping_sub(constants)),
+            instructions_far: short(end.wrapping_sub(instructions)),
+            constants: shorter(self.constants.len()),
+            instructions: shorter(self.instructions.len()),
+        };
+        trailer.push_onto(&mut bytes)?;
         Ok(bytes)
+    }
+
+    /// The file, after both piles are emptied.
+    pub fn finished_file(mut self, heap: Global, dice: &mut Dice) -> Result<Vec<u8>, AllocError> {
+        self.finish()?;
+        self.file(heap, dice)
     }
 }

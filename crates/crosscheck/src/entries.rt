@@ -51,16 +51,16 @@ fn any_part(dice: &mut Dice) -> u32 {
 /// A fraction with a value.
 pub fn fraction(dice: &mut Dice) -> Written {
     let (p, q) = match dice.below(12) {
-        0..=2 => (small(dice), dice.word_of(&[1, 2, 3, 4, 5, 6, 8, 9, 10])),
+        0..=2 => (small(dice), dice.one_of(&[1, 2, 3, 4, 5, 6, 8, 9, 10])),
         3 => (small(dice), 1),
         4 => (dice.one_of(&EDGES), 1),
-        5 => (dice.one_of(&EDGES), dice.word_of(&PARTS)),
+        5 => (dice.one_of(&EDGES), dice.one_of(&PARTS)),
         6 => (dice.signed(), any_part(dice)),
-        7 => (dice.signed(), dice.word_of(&PARTS)),
+        7 => (dice.signed(), dice.one_of(&PARTS)),
         8 => (small(dice), any_part(dice)),
         9 => (0, any_part(dice)),
-        10 => (dice.signed() / 65536, dice.word_of(&PARTS)),
-        _ => (dice.signed() / 1024, dice.word_of(&PARTS)),
+        10 => (dice.signed() / 65536, dice.one_of(&PARTS)),
+        _ => (dice.signed() / 1024, dice.one_of(&PARTS)),
     };
     Written { p, q }
 }
@@ -68,11 +68,11 @@ pub fn fraction(dice: &mut Dice) -> Written {
 /// The upper part stays, and the lower one has no value.
 pub fn spoiled(dice: &mut Dice, written: Written) -> Written {
     let q = if dice.one_in(2) {
-        dice.word_of(&VALUELESS)
+        dice.one_of(&VALUELESS)
     } else {
         dice.word() | 0x8000_0000
     };
-    Written { p: written.p, q }
+    Written { q, ..written }
 }
 
 // Whether the first is above the second.
@@ -94,13 +94,13 @@ fn both(a: Written, b: Written) -> Entered {
 
 // The fraction to one that is a little higher.
 fn narrow(a: Written) -> Entered {
-    let p = a.p.checked_add(1).unwrap_or(a.p);
-    both(a, Written { p, q: a.q })
+    let p = a.p.saturating_add(1);
+    both(a, Written { p, ..a })
 }
 
 // Up to one more or less.
 fn beside(dice: &mut Dice, p: i32) -> i32 {
-    p.checked_add(dice.one_of(&[-1, 0, 1])).unwrap_or(p)
+    p.saturating_add(dice.one_of(&[-1, 0, 1]))
 }
 
 // A fraction of nearly the same value, or of the same value in other words.
@@ -110,10 +110,10 @@ fn neighbour(dice: &mut Dice, a: Written) -> Written {
             return Written { p, q };
         }
     }
-    let q = a.q.wrapping_add(dice.word_of(&[0, 1, 2])).wrapping_sub(1);
+    let q = a.q.wrapping_add(dice.one_of(&[0, 1, 2])).wrapping_sub(1);
     Written {
         p: beside(dice, a.p),
-        q: q.max(1).min(2147483647),
+        q: q.clamp(1, 2147483647),
     }
 }
 
@@ -131,7 +131,7 @@ pub fn entry(dice: &mut Dice) -> Entered {
         10 => both(a, Written { p: 0, q: 1 }),
         11 => {
             let p = a.p.checked_neg().unwrap_or(0);
-            both(a, Written { p, q: a.q })
+            both(a, Written { p, ..a })
         }
         _ => both(a, fraction(dice)),
     }

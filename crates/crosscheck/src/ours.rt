@@ -1,7 +1,8 @@
 //! The pad's answers, brought into the form of the separate code.
-use crate::separate::answer;
-use crate::separate::answer::{Answer, Refused};
+use crate::separate::answer::{self, Answer, Refused, Shown};
 use crate::separate::entry::{Entered, Written};
+use crate::separate::operation::Piles;
+use crate::separate::truths::Truths;
 use fault::{Fault, Layer, Refusal};
 use number::Fraction;
 use pad::Pad;
@@ -9,85 +10,91 @@ use range::{Entry, Range, Verdict};
 use scale::{ArithmeticScale, RuledScale};
 use sheet::{ClearedSheet, FiledSheet};
 
-/// The most slots that are lent.
+/// The most slots of each kind that are lent.
 pub const SLOTS: usize = 64;
 
-fn layer(layer: Layer) -> answer::Layer {
-    match layer {
-        Layer::Filing => answer::Layer::Filing,
-        Layer::Clearing => answer::Layer::Clearing,
-        Layer::Pad => answer::Layer::Pad,
-        Layer::Scale => answer::Layer::Scale,
-        Layer::Program => answer::Layer::Other,
+impl From<Layer> for answer::Layer {
+    fn from(layer: Layer) -> answer::Layer {
+        match layer {
+            Layer::Filing => answer::Layer::Filing,
+            Layer::Clearing => answer::Layer::Clearing,
+            Layer::Pad => answer::Layer::Pad,
+            Layer::Scale => answer::Layer::Scale,
+            Layer::Program => answer::Layer::Other,
+        }
     }
 }
 
-fn refused(refusal: Refusal) -> Answer {
-    Answer::Refused(Refused {
-        layer: layer(refusal.layer),
-        number: refusal.number,
-        place: refusal.place,
-    })
-}
-
-fn bound(written: Option<Written>) -> Option<Fraction> {
-    let Written { p, q } = written?;
-    Some(Fraction { p, q })
-}
-
-fn as_entry(entered: Entered) -> Entry {
-    match entered {
-        Entered::Blank => Entry::Blank,
-        Entered::Bounds(lower, upper) => Entry::Bounds(bound(lower), bound(upper)),
+impl From<Refusal> for Refused {
+    fn from(refusal: Refusal) -> Refused {
+        Refused {
+            layer: refusal.layer.into(),
+            number: refusal.number,
+            place: refusal.place,
+        }
     }
+}
+
+impl From<Range> for Shown {
+    fn from(range: Range) -> Shown {
+        Shown::Ends(range.lower, range.upper)
+    }
+}
+
+impl From<Verdict> for Truths {
+    fn from(verdict: Verdict) -> Truths {
+        let (yes, no) = match verdict {
+            Verdict::Certain => (true, false),
+            Verdict::Impossible => (false, true),
+            Verdict::Open => (true, true),
+            Verdict::Void => (false, false),
+        };
+        Truths { yes, no }
+    }
+}
+
+impl From<Written> for Fraction {
+    fn from(written: Written) -> Fraction {
+        let Written { p, q } = written;
+        Fraction { p, q }
+    }
+}
+
+impl From<Entered> for Entry {
+    fn from(entered: Entered) -> Entry {
+        match entered {
+            Entered::Blank => Entry::Blank,
+            Entered::Bounds(lower, upper) => {
+                Entry::Bounds(lower.map(Fraction::from), upper.map(Fraction::from))
+            }
+        }
+    }
+}
+
+// What a fault of any layer tells.
+fn refused<F: Fault + Drop>(fault: F) -> Refused {
+    fault.refusal().into()
 }
 
 /// Whether there is a ruled scale with the division.
 pub fn divided(division: u32) -> Answer {
-    match RuledScale::new(division) {
-        Ok(_) => Answer::Done,
-        Err(fault) => refused(fault.refusal()),
-    }
+    RuledScale::new(division).map_err(refused)?;
+    Ok(Shown::Nothing)
 }
 
 pub fn entered<S: ArithmeticScale>(pad: &mut Pad<S>, line: u8, entry: Entered) -> Answer {
-    match pad.enter(line, as_entry(entry)) {
-        Ok(()) => Answer::Done,
-        Err(fault) => refused(fault.refusal()),
-    }
+    pad.enter(line, entry.into()).map_err(refused)?;
+    Ok(Shown::Nothing)
 }
 
 pub fn shown_line<S: ArithmeticScale>(pad: &Pad<S>, line: u8) -> Answer {
-    match pad.show_line(line) {
-        Ok(Some(range)) => Answer::Ends(range.lower, range.upper),
-        Ok(None) => Answer::Blank,
-        Err(fault) => refused(fault.refusal()),
-    }
+    let range = pad.show_line(line).map_err(refused)?;
+    Ok(range.map_or(Shown::Blank, Shown::from))
 }
 
 pub fn shown_flag<S: ArithmeticScale>(pad: &Pad<S>, flag: u8) -> Answer {
-    match pad.show_flag(flag) {
-        Ok(Verdict::Certain) => Answer::Truths(true, false),
-        Ok(Verdict::Impossible) => Answer::Truths(false, true),
-        Ok(Verdict::Open) => Answer::Truths(true, true),
-        Ok(Verdict::Void) => Answer::Truths(false, false),
-        Err(fault) => refused(fault.refusal()),
-    }
-}
-
-// Whether every slot holds that.
-fn all_hold(ranges: &[Range], range: Range, verdicts: &[Verdict], verdict: Verdict) -> bool {
-    for r in ranges.iter() {
-        if *r != range {
-            return false;
-        }
-    }
-    for v in verdicts.iter() {
-        if *v != verdict {
-            return false;
-        }
-    }
-    true
+    let verdict = pad.show_flag(flag).map_err(refused)?;
+    Ok(Shown::Truths(verdict.into()))
 }
 
 // Works on slots that hold something before: they are swept afterwards, or not touched where the sheet is refused.
@@ -98,41 +105,28 @@ fn worked_on<S: ArithmeticScale>(
     verdicts: &mut [Verdict],
 ) -> Answer {
     let result = pad.work(sheet, ranges, verdicts);
-    let is_tidy = match result {
-        Ok(()) => all_hold(ranges, Range::blank(), verdicts, Verdict::Void),
-        Err(_) => all_hold(ranges, Range::new(1, 2), verdicts, Verdict::Open),
+    let (range, verdict) = match result {
+        Ok(()) => (Range::blank(), Verdict::Void),
+        Err(_) => (Range::new(1, 2), Verdict::Open),
     };
+    let is_tidy = ranges.iter().all(|r| *r == range) && verdicts.iter().all(|v| *v == verdict);
     if !is_tidy {
-        return Answer::Untidy;
+        return Ok(Shown::Untidy);
     }
-    match result {
-        Ok(()) => Answer::Done,
-        Err(fault) => refused(fault.refusal()),
-    }
+    result.map_err(refused)?;
+    Ok(Shown::Nothing)
 }
 
 /// Files, clears and works the bytes with so many slots.
-pub fn worked<S: ArithmeticScale>(
-    pad: &mut Pad<S>,
-    bytes: &[u8],
-    ranges: usize,
-    verdicts: usize,
-) -> Answer {
-    let filed = match FiledSheet::file(bytes) {
-        Ok(filed) => filed,
-        Err(fault) => return refused(fault.refusal()),
-    };
-    match filed.clear() {
-        Ok(sheet) => {
-            let mut range_slots = [Range::new(1, 2); SLOTS];
-            let mut verdict_slots = [Verdict::Open; SLOTS];
-            worked_on(
-                pad,
-                &sheet,
-                &mut range_slots[0..ranges.min(SLOTS)],
-                &mut verdict_slots[0..verdicts.min(SLOTS)],
-            )
-        }
-        Err(uncleared) => refused(uncleared.fault.refusal()),
-    }
+pub fn worked<S: ArithmeticScale>(pad: &mut Pad<S>, bytes: &[u8], slots: Piles) -> Answer {
+    let filed = FiledSheet::file(bytes).map_err(refused)?;
+    let sheet = filed.clear().map_err(|uncleared| refused(uncleared.fault))?;
+    let mut ranges = [Range::new(1, 2); SLOTS];
+    let mut verdicts = [Verdict::Open; SLOTS];
+    worked_on(
+        pad,
+        &sheet,
+        &mut ranges[..SLOTS.min(slots.ranges as usize)],
+        &mut verdicts[..SLOTS.min(slots.verdicts as usize)],
+    )
 }

@@ -1,10 +1,11 @@
 //! The pad and the desk side by side: every call goes to both, and the answers are compared.
 use crate::ours;
-use crate::separate::answer::Answer;
+use crate::separate::answer::Shown;
 use crate::separate::desk::Desk;
 use crate::separate::entry::Entered;
 use crate::separate::marking::Marking;
-use crate::tally::{Call, Tally};
+use crate::separate::operation::Piles;
+use crate::tally::{Call, Kind, Tally};
 use pad::Pad;
 use scale::ArithmeticScale;
 use std::alloc::{AllocError, Global};
@@ -26,6 +27,7 @@ impl<S: ArithmeticScale> Pair<S> {
         }
     }
 
+    // the tally is no part of a pair: it counts over all pairs
     pub fn enter(&mut self, tally: &mut Tally, line: u8, entry: Entered) -> Result<(), AllocError> {
         let ours = ours::entered(&mut self.pad, line, entry);
         let separate = self.desk.enter(line, entry);
@@ -36,22 +38,21 @@ impl<S: ArithmeticScale> Pair<S> {
         &mut self,
         tally: &mut Tally,
         bytes: &[u8],
-        ranges: u64,
-        verdicts: u64,
+        slots: Piles,
     ) -> Result<(), AllocError> {
-        let ours = ours::worked(&mut self.pad, bytes, ranges as usize, verdicts as usize);
-        let separate = self.desk.work(bytes, ranges, verdicts)?;
-        if let Answer::Done = separate {
-            tally.count_sheet(bytes);
+        let ours = ours::worked(&mut self.pad, bytes, slots);
+        let separate = self.desk.work(bytes, slots)?;
+        if separate.is_ok() {
+            tally.count_sheet(bytes)?;
         }
         tally.compare(Call::Work, ours, separate)
     }
 
     fn show_line(&self, tally: &mut Tally, line: u8) -> Result<(), AllocError> {
         let ours = ours::shown_line(&self.pad, line);
-        if let Answer::Ends(lower, upper) = ours {
+        if let Ok(Shown::Ends(lower, upper)) = ours {
             let last = self.marking.last();
-            tally.count_ends(lower < last.wrapping_neg(), last < upper);
+            tally.count_line(Kind::of(lower < last.wrapping_neg(), last < upper))?;
         }
         tally.compare(Call::Line(line), ours, self.desk.show_line(line))
     }
@@ -63,9 +64,9 @@ impl<S: ArithmeticScale> Pair<S> {
 
     /// Every line and flag, and those just beyond the last.
     pub fn show(&self, tally: &mut Tally) -> Result<(), AllocError> {
-        for i in 0..33u8 {
-            self.show_line(tally, i)?;
-            self.show_flag(tally, i)?;
+        for cell in 0..33u8 {
+            self.show_line(tally, cell)?;
+            self.show_flag(tally, cell)?;
         }
         Ok(())
     }

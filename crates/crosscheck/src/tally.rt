@@ -1,8 +1,15 @@
 //! What was tried, and every difference that was found.
-use crate::separate::answer::Answer;
+ghost use Rattle.std.specs.Prelude.{Some};
+ghost use Rattle.crosscheck.specs.Names.{kind_name, purpose_name};
+
+use crate::separate::answer::{Answer, Shown};
 use crate::separate::filing;
+use crate::separate::filing::Instruction;
+use crate::separate::operation::Operation;
+use crate::separate::truths::Truths;
 use std::alloc::{AllocError, Global};
-use std::io;
+use std::collections::BTreeMap;
+use std::{fmt, io};
 
 /// The call whose answers are compared.
 #[derive(Clone, Copy, Debug)]
@@ -14,6 +21,25 @@ pub enum Call {
     Flag(u8),
 }
 
+// What a call is for.
+#[derive(Clone, Copy, PartialEq, Eq, PartialOrd, Ord)]
+enum Purpose {
+    Working,
+    Entering,
+    Showing,
+    Dividing,
+}
+
+/// What a line holds that is shown.
+#[derive(Clone, Copy, PartialEq, Eq, PartialOrd, Ord)]
+pub enum Kind {
+    Blank,
+    Bounded,
+    UnboundedBelow,
+    UnboundedAbove,
+    Unbounded,
+}
+
 #[derive(Clone, Copy)]
 struct Difference {
     case: u64,
@@ -22,24 +48,27 @@ struct Difference {
     separate: Answer,
 }
 
-// Counts of what is numbered from 0 to 31.
-#[derive(Clone, Copy)]
-struct Counts {
-    cells: [u64; 32],
+// How often each key was counted.
+#[derive(Drop)]
+struct Counts<K: Ord> {
+    cells: BTreeMap<K, u64>,
 }
 
-impl Counts {
-    fn new() -> Counts {
-        Counts { cells: [0; 32] }
+impl<K: Ord + Drop> Counts<K> {
+    fn new(heap: Global) -> Counts<K> {
+        Counts {
+            cells: BTreeMap::new(heap),
+        }
     }
 
-    fn add(&mut self, i: u8) {
-        let i = (i & 31) as usize;
-        self.cells[i] = self.cells[i].wrapping_add(1);
+    fn add(&mut self, key: K) -> Result<(), AllocError> {
+        let count = self.cells.entry(key)?.or_insert(0);
+        *count = count.wrapping_add(1);
+        Ok(())
     }
 
-    fn of(&self, i: u8) -> u64 {
-        self.cells[(i & 31) as usize]
+    fn of(&self, key: K) -> u64 {
+        self.cells.get(&key).copied().unwrap_or(0)
     }
 }
 
@@ -48,16 +77,11 @@ impl Counts {
 pub struct Tally {
     cases: u64,
     calls: u64,
-    // by operation, and by number of the refusal
-    worked: Counts,
-    not_made: Counts,
-    not_entered: Counts,
-    not_worked: Counts,
-    not_shown: Counts,
-    // blank, bounded, unbounded below, above, on both sides
-    lines: Counts,
-    // void, impossible, certain, open
-    flags: Counts,
+    worked: Counts<Operation>,
+    // by what the call was for, and the number of the refusal
+    refused: Counts<(Purpose, u8)>,
+    lines: Counts<Kind>,
+    flags: Counts<Truths>,
     differences: u64,
     first: Vec<Difference>,
 }
@@ -65,28 +89,62 @@ pub struct Tally {
 // At most so many differences are printed.
 const MOST: usize = 20;
 
-const NAMES: [&str; 23] = [
-    "line", "constant", "keep", "plus", "minus", "times", "over", "parted", "negate", "square",
-    "lesser", "greater", "join", "meet", "again", "less", "at most", "equal", "and", "or", "not",
-    "pick", "flag",
-];
-
-fn name(operation: u8) -> &'static str {
-    NAMES
-        .get(operation.wrapping_sub(1) as usize)
-        .copied()
-        .unwrap_or("none")
-}
-
-// The refusals that came of one kind of call, by number.
-fn print_refusals(rt: &impl Print, call: &str, counts: &Counts) -> io::Result<()> {
-    for number in 1..17u8 {
-        let count = counts.of(number);
-        if count > 0 {
-            println!(rt; "refused {number} {call}: {count}")?;
+impl Call {
+    fn purpose(self) -> Purpose {
+        match self {
+            Call::Division(_) => Purpose::Dividing,
+            Call::Enter(_) => Purpose::Entering,
+            Call::Work => Purpose::Working,
+            Call::Line(_) | Call::Flag(_) => Purpose::Showing,
         }
     }
-    Ok(())
+}
+
+impl fmt::Display for Purpose {
+    ghost output = { λ p. Some (purpose_name p) };
+
+    fn fmt<W: fmt::Write>(&self, f: &mut fmt::Formatter<W>) -> fmt::Result {
+        f.write_str(match self {
+            Purpose::Working => "working",
+            Purpose::Entering => "entering",
+            Purpose::Showing => "showing",
+            Purpose::Dividing => "a scale",
+        })
+    }
+}
+
+impl Kind {
+    const ALL: [Kind; 5] = [
+        Kind::Blank,
+        Kind::Bounded,
+        Kind::UnboundedBelow,
+        Kind::UnboundedAbove,
+        Kind::Unbounded,
+    ];
+
+    /// That of a range, by the sides on which it has no bound.
+    pub fn of(below: bool, above: bool) -> Kind {
+        match (below, above) {
+            (false, false) => Kind::Bounded,
+            (true, false) => Kind::UnboundedBelow,
+            (false, true) => Kind::UnboundedAbove,
+            (true, true) => Kind::Unbounded,
+        }
+    }
+}
+
+impl fmt::Display for Kind {
+    ghost output = { λ k. Some (kind_name k) };
+
+    fn fmt<W: fmt::Write>(&self, f: &mut fmt::Formatter<W>) -> fmt::Result {
+        f.write_str(match self {
+            Kind::Blank => "blank",
+            Kind::Bounded => "bounded",
+            Kind::UnboundedBelow => "unbounded below",
+            Kind::UnboundedAbove => "unbounded above",
+            Kind::Unbounded => "unbounded",
+        })
+    }
 }
 
 impl Tally {
@@ -94,13 +152,10 @@ impl Tally {
         Tally {
             cases: 0,
             calls: 0,
-            worked: Counts::new(),
-            not_made: Counts::new(),
-            not_entered: Counts::new(),
-            not_worked: Counts::new(),
-            not_shown: Counts::new(),
-            lines: Counts::new(),
-            flags: Counts::new(),
+            worked: Counts::new(heap),
+            refused: Counts::new(heap),
+            lines: Counts::new(heap),
+            flags: Counts::new(heap),
             differences: 0,
             first: Vec::new(heap),
         }
@@ -111,32 +166,13 @@ impl Tally {
         self.cases = self.cases.wrapping_add(1);
     }
 
-    fn count_refusal(&mut self, call: Call, number: u8) {
-        match call {
-            Call::Division(_) => self.not_made.add(number),
-            Call::Enter(_) => self.not_entered.add(number),
-            Call::Work => self.not_worked.add(number),
-            Call::Line(_) | Call::Flag(_) => self.not_shown.add(number),
-        }
-    }
-
-    fn count_truths(&mut self, yes: bool, no: bool) {
-        let kind = match (yes, no) {
-            (false, false) => 0,
-            (false, true) => 1,
-            (true, false) => 2,
-            (true, true) => 3,
-        };
-        self.flags.add(kind);
-    }
-
     // Counts the answer.
-    fn count(&mut self, call: Call, answer: Answer) {
+    fn count(&mut self, call: Call, answer: Answer) -> Result<(), AllocError> {
         match answer {
-            Answer::Refused(refused) => self.count_refusal(call, refused.number),
-            Answer::Blank => self.lines.add(0),
-            Answer::Truths(yes, no) => self.count_truths(yes, no),
-            Answer::Done | Answer::Ends(_, _) | Answer::Untidy => {}
+            Err(refused) => self.refused.add((call.purpose(), refused.number)),
+            Ok(Shown::Blank) => self.lines.add(Kind::Blank),
+            Ok(Shown::Truths(truths)) => self.flags.add(truths),
+            Ok(Shown::Nothing | Shown::Ends(_, _) | Shown::Untidy) => Ok(()),
         }
     }
 
@@ -149,8 +185,7 @@ impl Tally {
     ) -> Result<(), AllocError> {
         self.calls = self.calls.wrapping_add(1);
         if ours == separate {
-            self.count(call, ours);
-            return Ok(());
+            return self.count(call, ours);
         }
         self.differences = self.differences.wrapping_add(1);
         if self.first.len() < MOST {
@@ -165,33 +200,33 @@ impl Tally {
         Ok(())
     }
 
-    /// Counts the kind of a range that is shown.
-    pub fn count_ends(&mut self, is_below: bool, is_above: bool) {
-        let kind = match (is_below, is_above) {
-            (false, false) => 1,
-            (true, false) => 2,
-            (false, true) => 3,
-            (true, true) => 4,
-        };
-        self.lines.add(kind);
+    /// Counts a range that is shown.
+    pub fn count_line(&mut self, kind: Kind) -> Result<(), AllocError> {
+        self.lines.add(kind)
     }
 
     /// Counts the operations of a sheet that was worked.
-    pub fn count_sheet(&mut self, bytes: &[u8]) {
-        if let Ok(layout) = filing::file(bytes) {
-            for i in 0..layout.n {
-                self.worked.add(layout.instruction(bytes, i).0);
+    pub fn count_sheet(&mut self, bytes: &[u8]) -> Result<(), AllocError> {
+        let Ok(filed) = filing::file(bytes) else {
+            return Ok(());
+        };
+        for bytes in filed.instructions {
+            if let Some(operation) = Instruction::from(*bytes).operation {
+                self.worked.add(operation)?;
             }
         }
+        Ok(())
     }
 
     // The differences, at most the first of them.
     fn print_differences(&self, rt: &impl Print) -> io::Result<()> {
         for difference in self.first.iter() {
-            let case = difference.case;
-            let call = difference.call;
-            let ours = difference.ours;
-            let separate = difference.separate;
+            let Difference {
+                case,
+                call,
+                ours,
+                separate,
+            } = difference;
             println!(rt; "case {case} {call:?}: ours {ours:?}, separate {separate:?}")?;
         }
         let differences = self.differences;
@@ -199,30 +234,29 @@ impl Tally {
     }
 
     fn print_operations(&self, rt: &impl Print) -> io::Result<()> {
-        for operation in 1..24u8 {
-            let name = name(operation);
+        for operation in Operation::ALL {
+            let byte = operation as u8;
             let count = self.worked.of(operation);
-            println!(rt; "worked {operation:02x} {name}: {count}")?;
+            println!(rt; "worked {byte:02x} {operation}: {count}")?;
+        }
+        Ok(())
+    }
+
+    fn print_refusals(&self, rt: &impl Print) -> io::Result<()> {
+        for ((purpose, number), count) in self.refused.cells.iter() {
+            println!(rt; "refused {number} {purpose}: {count}")?;
         }
         Ok(())
     }
 
     fn print_shown(&self, rt: &impl Print) -> io::Result<()> {
-        let kinds = [
-            "blank",
-            "bounded",
-            "unbounded below",
-            "unbounded above",
-            "unbounded",
-        ];
-        for (i, kind) in kinds.iter().enumerate() {
-            let count = self.lines.of((i & 31) as u8);
+        for kind in Kind::ALL {
+            let count = self.lines.of(kind);
             println!(rt; "shown {kind}: {count}")?;
         }
-        let verdicts = ["void", "impossible", "certain", "open"];
-        for (i, verdict) in verdicts.iter().enumerate() {
-            let count = self.flags.of((i & 31) as u8);
-            println!(rt; "shown {verdict}: {count}")?;
+        for truths in Truths::ALL {
+            let count = self.flags.of(truths);
+            println!(rt; "shown {truths}: {count}")?;
         }
         Ok(())
     }
@@ -233,10 +267,7 @@ impl Tally {
         let calls = self.calls;
         println!(rt; "cases {cases}, calls {calls}")?;
         self.print_operations(rt)?;
-        print_refusals(rt, "working", &self.not_worked)?;
-        print_refusals(rt, "entering", &self.not_entered)?;
-        print_refusals(rt, "showing", &self.not_shown)?;
-        print_refusals(rt, "a scale", &self.not_made)?;
+        self.print_refusals(rt)?;
         self.print_shown(rt)?;
         self.print_differences(rt)
     }

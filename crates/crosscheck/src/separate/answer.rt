@@ -1,4 +1,5 @@
 //! What a call answers, in a form into which both sides can be brought.
+use super::truths::Truths;
 
 /// The layers that refuse.
 #[derive(Clone, Copy, PartialEq, Eq, Debug)]
@@ -10,7 +11,8 @@ pub enum Layer {
     Other,
 }
 
-/// A refusal: the layer, the number of the rule and the place.
+/// A refusal as it is told: the layer, the number of the rule and the place.
+// a number, to be compared with the pad's
 #[derive(Clone, Copy, PartialEq, Eq, Debug)]
 pub struct Refused {
     pub layer: Layer,
@@ -18,29 +20,20 @@ pub struct Refused {
     pub place: u64,
 }
 
-/// The answer of one call.
+/// What a call shows that was taken.
 #[derive(Clone, Copy, PartialEq, Eq, Debug)]
-pub enum Answer {
-    /// The call was taken, and has nothing to show.
-    Done,
+pub enum Shown {
+    /// The call has nothing to show.
+    Nothing,
     /// The line is blank.
     Blank,
     /// The codes of the line's ends.
     Ends(i64, i64),
-    /// Whether the flag allows true, and whether it allows false.
-    Truths(bool, bool),
-    /// The call was refused.
-    Refused(Refused),
+    /// The truths that the flag allows.
+    Truths(Truths),
     /// The slots were not left as they should be.
     Untidy,
 }
 
-impl Answer {
-    /// What becomes of a call that shows nothing.
-    pub fn of(res: Result<(), Refused>) -> Answer {
-        match res {
-            Ok(()) => Answer::Done,
-            Err(refused) => Answer::Refused(refused),
-        }
-    }
-}
+/// The answer of one call.
+pub type Answer = Result<Shown, Refused>;

@@ -1,8 +1,10 @@
 //! The desk stands beside the pad: it takes the same calls.
-use super::answer::{Answer, Layer, Refused};
-use super::entry::{Entered, admitted};
-use super::filing::Layout;
+use super::answer::{Answer, Shown};
+use super::broken::Broken;
+use super::entry::{Entered, Written, admitted};
+use super::filing::{Filed, Instruction};
 use super::marking::Marking;
+use super::operation::{Operation, Piles};
 use super::span::{Held, Span, rounded};
 use super::truths::Truths;
 use super::{clearing, filing, span, truths};
@@ -18,34 +20,10 @@ pub struct Desk {
     verdicts: Vec<Truths>,
 }
 
-fn refused(number: u8, place: u64) -> Refused {
-    Refused {
-        layer: Layer::Pad,
-        number,
-        place,
-    }
-}
-
-// The exact outcomes of an operation that makes one range of two.
-fn of_two(operation: u8, x: Held, y: Held) -> Held {
-    match operation {
-        0x04 => span::sum(x, y),
-        0x05 => span::difference(x, y),
-        0x06 => span::product(x, y),
-        0x07 => span::quotient(x, y),
-        0x0b => span::lesser(x, y),
-        0x0c => span::greater(x, y),
-        0x0d => span::join(x, y),
-        _ => span::meet(x, y),
-    }
-}
-
-fn compared(operation: u8, x: Held, y: Held) -> Truths {
-    match operation {
-        0x10 => truths::less(x, y),
-        0x11 => truths::at_most(x, y),
-        _ => truths::equal(x, y),
-    }
+// What the line or the flag is set to.
+fn set_to<T: Copy>(cells: &[Option<T>], cell: u8) -> Result<T, Broken> {
+    let content = cells.get(usize::from(cell)).ok_or(Broken::Cell(cell))?;
+    content.ok_or(Broken::Unset(cell))
 }
 
 impl Desk {
@@ -67,90 +45,84 @@ impl Desk {
 
     /// Enters into the line.
     pub fn enter(&mut self, line: u8, entry: Entered) -> Answer {
-        match admitted(line, entry) {
-            Ok(held) => {
-                self.keep(line, held);
-                Answer::Done
-            }
-            Err(refused) => Answer::Refused(refused),
-        }
+        let held = admitted(line, entry)?;
+        self.keep(line, held);
+        Ok(Shown::Nothing)
     }
 
     /// What a line holds.
     pub fn show_line(&self, line: u8) -> Answer {
-        if line >= 32 {
-            return Answer::Refused(refused(9, line as u64));
-        }
-        match self.line(line) {
-            None => Answer::Refused(refused(14, line as u64)),
-            Some(None) => Answer::Blank,
-            Some(Some(held)) => {
-                let (lower, upper) = held.codes(self.marking);
-                Answer::Ends(lower, upper)
+        match self.line(line)? {
+            Some(span) => {
+                let (lower, upper) = span.codes(self.marking);
+                Ok(Shown::Ends(lower, upper))
             }
+            None => Ok(Shown::Blank),
         }
     }
 
     /// What a flag allows.
     pub fn show_flag(&self, flag: u8) -> Answer {
-        if flag >= 32 {
-            return Answer::Refused(refused(9, flag as u64));
-        }
-        match self.flags[(flag & 31) as usize] {
-            None => Answer::Refused(refused(14, flag as u64)),
-            Some(v) => Answer::Truths(v.yes, v.no),
-        }
+        Ok(Shown::Truths(set_to(&self.flags, flag)?))
     }
 
     /// Files, clears and works the bytes with so many slots.
-    pub fn work(&mut self, bytes: &[u8], ranges: u64, verdicts: u64) -> Result<Answer, AllocError> {
-        match self.ready(bytes, ranges, verdicts) {
-            Ok(layout) => {
-                for i in 0..layout.n {
-                    self.step(bytes, layout, i)?;
-                }
-                Ok(Answer::Done)
-            }
-            Err(refused) => Ok(Answer::Refused(refused)),
+    pub fn work(&mut self, bytes: &[u8], slots: Piles) -> Result<Answer, AllocError> {
+        let filed = match self.ready(bytes, slots) {
+            Ok(filed) => filed,
+            Err(broken) => return Ok(Err(broken.into())),
+        };
+        for bytes in filed.instructions {
+            self.step(filed, Instruction::from(*bytes))?;
         }
+        Ok(Ok(Shown::Nothing))
     }
 
-    // The layout of a sheet that can be worked.
-    fn ready(&self, bytes: &[u8], ranges: u64, verdicts: u64) -> Result<Layout, Refused> {
-        let layout = filing::file(bytes)?;
-        let depths = clearing::clear(bytes, layout)?;
-        for line in 0..32u8 {
-            if self.line(line).is_none() && clearing::is_read_first(bytes, layout, line) {
-                return Err(refused(14, line as u64));
+    // A sheet that can be worked.
+    fn ready<'a>(&self, bytes: &'a [u8], slots: Piles) -> Result<Filed<'a>, Broken> {
+        let filed = filing::file(bytes)?;
+        let depths = clearing::clear(filed)?;
+        for (line, content) in (0..32u8).zip(self.lines.iter()) {
+            if content.is_none() && clearing::is_read_first(filed, line) {
+                return Err(Broken::Unset(line));
             }
         }
-        if ranges < depths.ranges {
-            return Err(refused(15, depths.ranges));
+        if slots.ranges < depths.ranges {
+            return Err(Broken::RangeSlots(depths.ranges));
         }
-        if verdicts < depths.verdicts {
-            return Err(refused(16, depths.verdicts));
+        if slots.verdicts < depths.verdicts {
+            return Err(Broken::VerdictSlots(depths.verdicts));
         }
-        Ok(layout)
+        Ok(filed)
     }
 
-    fn line(&self, line: u8) -> Option<Held> {
-        self.lines[(line & 31) as usize]
+    fn line(&self, line: u8) -> Result<Held, Broken> {
+        set_to(&self.lines, line)
     }
 
     // Rounds the range and sets the line to it.
     fn keep(&mut self, line: u8, exact: Held) {
-        self.lines[(line & 31) as usize] = Some(rounded(self.marking, exact));
+        let held = rounded(self.marking, exact);
+        if let Some(content) = self.lines.get_mut(usize::from(line)) {
+            *content = Some(held);
+        }
     }
 
     // Rounds the range and puts it onto its pile.
+    // each pile has functions of its own: ranges are rounded where they are put, verdicts are not
     fn put(&mut self, exact: Held) -> Result<(), AllocError> {
         self.ranges.push(rounded(self.marking, exact))?;
         Ok(())
     }
 
+    fn put_verdict(&mut self, verdict: Truths) -> Result<(), AllocError> {
+        self.verdicts.push(verdict)?;
+        Ok(())
+    }
+
     // Clearing has seen to it that the operands are there; a blank in place of one would show.
     fn take(&mut self) -> Held {
-        self.ranges.pop().unwrap_or(None)
+        self.ranges.pop().flatten()
     }
 
     fn take_two(&mut self) -> (Held, Held) {
@@ -160,78 +132,104 @@ impl Desk {
     }
 
     fn take_verdict(&mut self) -> Truths {
-        self.verdicts.pop().unwrap_or(Truths::none())
+        self.verdicts.pop().unwrap_or(Truths::NONE)
     }
 
-    // Works the instruction at the index.
-    fn step(&mut self, bytes: &[u8], layout: Layout, i: usize) -> Result<(), AllocError> {
-        let (operation, argument) = layout.instruction(bytes, i);
+    // Makes one range of two.
+    fn join_ranges<F: FnOnce(Held, Held) -> Held>(&mut self, operation: F) -> Result<(), AllocError>
+        requires { F.IsAlwaysCallable operation }
+    {
+        let (x, y) = self.take_two();
+        self.put(operation(x, y))
+    }
+
+    // Makes a verdict of two ranges.
+    fn compare<F: FnOnce(Held, Held) -> Truths>(&mut self, comparison: F) -> Result<(), AllocError>
+        requires { F.IsAlwaysCallable comparison }
+    {
+        let (x, y) = self.take_two();
+        self.put_verdict(comparison(x, y))
+    }
+
+    // Makes one verdict of two.
+    fn join_verdicts<F: FnOnce(Truths, Truths) -> Truths>(
+        &mut self,
+        operation: F,
+    ) -> Result<(), AllocError>
+        requires { F.IsAlwaysCallable operation }
+    {
+        let y = self.take_verdict();
+        let x = self.take_verdict();
+        self.put_verdict(operation(x, y))
+    }
+
+    // Works the instruction.
+    fn step(&mut self, filed: Filed, instruction: Instruction) -> Result<(), AllocError> {
+        let argument = instruction.argument;
+        // clearing has refused what is no operation
+        let Some(operation) = instruction.operation else {
+            return Ok(());
+        };
         match operation {
-            0x01 => self.put(self.line(argument).unwrap_or(None)),
-            0x02 => {
-                let written = layout.constant(bytes, argument as usize);
-                match written.value() {
-                    Some(number) => self.put(Some(Span::point(number))),
-                    None => self.put(None),
-                }
+            Operation::Line => self.put(self.line(argument).unwrap_or(None)),
+            Operation::Constant => {
+                let number = filed
+                    .constants
+                    .get(usize::from(argument))
+                    .and_then(|bytes| Written::from(*bytes).value());
+                self.put(number.map(Span::point))
             }
-            0x03 => {
+            Operation::Keep => {
                 let y = self.take();
                 self.keep(argument, y);
                 Ok(())
             }
-            0x10..=0x12 => {
+            Operation::Plus => self.join_ranges(span::sum),
+            Operation::Minus => self.join_ranges(span::difference),
+            Operation::Times => self.join_ranges(span::product),
+            Operation::Over => self.join_ranges(span::quotient),
+            Operation::Parted => {
                 let (x, y) = self.take_two();
-                self.verdicts.push(compared(operation, x, y))?;
-                Ok(())
-            }
-            0x13..=0x15 | 0x17 => self.step_verdict(operation, argument),
-            _ => self.step_range(operation),
-        }
-    }
-
-    // Works an operation on verdicts alone.
-    fn step_verdict(&mut self, operation: u8, argument: u8) -> Result<(), AllocError> {
-        let y = self.take_verdict();
-        match operation {
-            0x13 => {
-                let x = self.take_verdict();
-                self.verdicts.push(truths::both(x, y))?;
-            }
-            0x14 => {
-                let x = self.take_verdict();
-                self.verdicts.push(truths::either(x, y))?;
-            }
-            0x15 => self.verdicts.push(truths::opposite(y))?,
-            _ => self.flags[(argument & 31) as usize] = Some(y),
-        }
-        Ok(())
-    }
-
-    // Works an operation that makes ranges of ranges.
-    fn step_range(&mut self, operation: u8) -> Result<(), AllocError> {
-        let y = self.take();
-        match operation {
-            0x08 => {
-                let x = self.take();
                 let (by_negative, by_positive) = span::parted(x, y);
                 self.put(by_negative)?;
                 self.put(by_positive)
             }
-            0x09 => self.put(span::negation(y)),
-            0x0a => self.put(span::square(y)),
-            0x0f => {
+            Operation::Negate => {
+                let y = self.take();
+                self.put(span::negation(y))
+            }
+            Operation::Square => {
+                let y = self.take();
+                self.put(span::square(y))
+            }
+            Operation::Lesser => self.join_ranges(span::lesser),
+            Operation::Greater => self.join_ranges(span::greater),
+            Operation::Join => self.join_ranges(span::join),
+            Operation::Meet => self.join_ranges(span::meet),
+            Operation::Again => {
+                let y = self.take();
                 self.put(y)?;
                 self.put(y)
             }
-            0x16 => {
+            Operation::Less => self.compare(truths::less),
+            Operation::AtMost => self.compare(truths::at_most),
+            Operation::Equal => self.compare(truths::equal),
+            Operation::And => self.join_verdicts(truths::both),
+            Operation::Or => self.join_verdicts(truths::either),
+            Operation::Not => {
                 let v = self.take_verdict();
-                let x = self.take();
-                self.put(span::pick(v, x, y))
+                self.put_verdict(truths::opposite(v))
             }
-            _ => {
-                let x = self.take();
-                self.put(of_two(operation, x, y))
+            Operation::Pick => {
+                let v = self.take_verdict();
+                self.join_ranges(|x, y| span::pick(v, x, y))
+            }
+            Operation::Flag => {
+                let v = self.take_verdict();
+                if let Some(content) = self.flags.get_mut(usize::from(argument)) {
+                    *content = Some(v);
+                }
+                Ok(())
             }
         }
     }

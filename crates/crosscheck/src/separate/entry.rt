@@ -1,5 +1,6 @@
 //! Entries: what they are refused for, and what they admit.
-use super::answer::{Layer, Refused};
+//! Its types are like those of the library, and not those, so that the two share nothing.
+use super::broken::{Broken, Side};
 use super::exact::{End, Exact};
 use super::span::{Held, Span};
 
@@ -17,51 +18,54 @@ pub enum Entered {
     Bounds(Option<Written>, Option<Written>),
 }
 
+/// Both parts lie in a file with the lowest byte first.
+impl From<[u8; 8]> for Written {
+    fn from(bytes: [u8; 8]) -> Written {
+        let [p0, p1, p2, p3, q0, q1, q2, q3] = bytes;
+        Written {
+            p: i32::from_le_bytes([p0, p1, p2, p3]),
+            q: u32::from_le_bytes([q0, q1, q2, q3]),
+        }
+    }
+}
+
 impl Written {
     /// Its value, if it has one.
     pub fn value(self) -> Option<Exact> {
         match self.q {
             1..=2147483647 => Some(Exact {
-                top: self.p as i128,
-                bottom: self.q as i128,
+                top: i128::from(self.p),
+                bottom: i128::from(self.q),
             }),
             _ => None,
         }
     }
 }
 
-fn refused(number: u8, place: u64) -> Refused {
-    Refused {
-        layer: Layer::Pad,
-        number,
-        place,
-    }
-}
-
 // The bound, an absent one being the infinity of its side.
-fn end(bound: Option<Written>, side: u64) -> Result<End, Refused> {
+fn end(bound: Option<Written>, side: Side) -> Result<End, Broken> {
     match (bound, side) {
-        (None, 0) => Ok(End::Minus),
-        (None, _) => Ok(End::Plus),
-        (Some(written), _) => match written.value() {
-            Some(number) => Ok(End::Number(number)),
-            None => Err(refused(10, side)),
-        },
+        (None, Side::Lower) => Ok(End::Minus),
+        (None, Side::Upper) => Ok(End::Plus),
+        (Some(written), _) => {
+            let number = written.value().ok_or(Broken::Bound(side))?;
+            Ok(End::Number(number))
+        }
     }
 }
 
 /// The numbers that the entry admits into the line, or why it may not be entered.
-pub fn admitted(line: u8, entry: Entered) -> Result<Held, Refused> {
+pub fn admitted(line: u8, entry: Entered) -> Result<Held, Broken> {
     if line >= 32 {
-        return Err(refused(9, line as u64));
+        return Err(Broken::Cell(line));
     }
     let Entered::Bounds(lower, upper) = entry else {
         return Ok(None);
     };
-    let lower = end(lower, 0)?;
-    let upper = end(upper, 1)?;
+    let lower = end(lower, Side::Lower)?;
+    let upper = end(upper, Side::Upper)?;
     if upper.is_below(lower) {
-        return Err(refused(11, line as u64));
+        return Err(Broken::Crossed(line));
     }
     Ok(Some(Span { lower, upper }))
 }

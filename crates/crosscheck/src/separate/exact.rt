@@ -13,6 +13,7 @@ impl Exact {
         Exact { top: 0, bottom: 1 }
     }
 
+    // no Ord: products wrap at some values of the fields, and there its laws fail
     pub fn is_below(self, other: Exact) -> bool {
         self.top.wrapping_mul(other.bottom) < other.top.wrapping_mul(self.bottom)
     }
@@ -69,6 +70,7 @@ impl End {
         End::Number(Exact::zero())
     }
 
+    // no Ord, since the numbers have none
     pub fn is_below(self, other: End) -> bool {
         match (self, other) {
             (End::Number(a), End::Number(b)) => a.is_below(b),
@@ -106,7 +108,7 @@ impl End {
         }
     }
 
-    // -1, 0 or 1.
+    // -1, 0 or 1: a number, since signs are multiplied.
     fn sign(self) -> i128 {
         match self {
             End::Minus => -1,

@@ -1,91 +1,70 @@
 //! Files: where the parts lie, and what they hold.
-use super::answer::{Layer, Refused};
-use super::entry::Written;
+use super::broken::Broken;
+use super::operation::Operation;
 
-/// Where the constants and the instructions begin, and how many there are.
+/// The constants and the instructions of a file.
 #[derive(Clone, Copy)]
-pub struct Layout {
-    pub constants: usize,
-    pub instructions: usize,
-    pub k: usize,
-    pub n: usize,
+pub struct Filed<'a> {
+    pub constants: &'a [[u8; 8]],
+    pub instructions: &'a [[u8; 2]],
 }
 
-// The byte, or 0 beyond the end.
-fn byte(bytes: &[u8], at: usize) -> u8 {
-    bytes.get(at).copied().unwrap_or(0)
+/// An instruction, whose byte may be no operation's.
+#[derive(Clone, Copy)]
+pub struct Instruction {
+    pub operation: Option<Operation>,
+    pub argument: u8,
 }
 
-// The little-endian number of so many bytes.
-fn number(bytes: &[u8], at: usize, width: usize) -> usize {
-    let mut value: usize = 0;
-    for i in (0..width).rev() {
-        value = value
-            .wrapping_mul(256)
-            .wrapping_add(byte(bytes, at.wrapping_add(i)) as usize);
+impl From<[u8; 2]> for Instruction {
+    fn from(bytes: [u8; 2]) -> Instruction {
+        let [byte, argument] = bytes;
+        Instruction {
+            operation: Operation::try_from(byte).ok(),
+            argument,
+        }
     }
-    value
 }
 
-fn refused(number: u8, place: u64) -> Result<Layout, Refused> {
-    Err(Refused {
-        layer: Layer::Filing,
-        number,
-        place,
-    })
+impl Instruction {
+    /// Whether its argument is a line.
+    pub fn names_line(self) -> bool {
+        matches!(self.operation, Some(Operation::Line | Operation::Keep))
+    }
 }
 
 /// Files the bytes.
-pub fn file(bytes: &[u8]) -> Result<Layout, Refused> {
+pub fn file(bytes: &[u8]) -> Result<Filed<'_>, Broken> {
     let length = bytes.len();
-    if length < 12 || length > 32768 {
-        return refused(1, length as u64);
+    if length > 32768 {
+        return Err(Broken::Length(length));
     }
-    let trailer = length.wrapping_sub(12);
-    let constants_far = number(bytes, trailer, 4);
-    let instructions_far = number(bytes, trailer.wrapping_add(4), 4);
-    let k = number(bytes, trailer.wrapping_add(8), 2);
-    let n = number(bytes, trailer.wrapping_add(10), 2);
+    let Some(trailer) = bytes.last_chunk::<12>() else {
+        return Err(Broken::Length(length));
+    };
+    let [c0, c1, c2, c3, i0, i1, i2, i3, k0, k1, n0, n1] = *trailer;
+    let constants_far = u32::from_le_bytes([c0, c1, c2, c3]) as usize;
+    let instructions_far = u32::from_le_bytes([i0, i1, i2, i3]) as usize;
+    let k = usize::from(u16::from_le_bytes([k0, k1]));
+    let n = usize::from(u16::from_le_bytes([n0, n1]));
     if k > 64 {
-        return refused(2, 0);
+        return Err(Broken::ConstantCount);
     }
     if n == 0 || n > 4096 {
-        return refused(2, 1);
+        return Err(Broken::InstructionCount);
     }
-    if instructions_far < n.wrapping_mul(2).wrapping_add(12) {
-        return refused(3, 0);
+    if instructions_far < 2 * n + 12 {
+        return Err(Broken::InstructionsDistance);
     }
-    if constants_far < k.wrapping_mul(8).wrapping_add(instructions_far) || constants_far > length {
-        return refused(3, 1);
+    if constants_far < 8 * k + instructions_far || constants_far > length {
+        return Err(Broken::ConstantsDistance);
     }
-    Ok(Layout {
-        constants: length.wrapping_sub(constants_far),
-        instructions: length.wrapping_sub(instructions_far),
-        k,
-        n,
+    let constants = length - constants_far;
+    let instructions = length - instructions_far;
+    let (constants, _) = bytes[constants..constants + 8 * k].as_chunks();
+    let (instructions, _) = bytes[instructions..instructions + 2 * n].as_chunks();
+    Ok(Filed {
+        constants,
+        instructions,
     })
-}
-
-impl Layout {
-    /// The constant at the index.
-    pub fn constant(self, bytes: &[u8], i: usize) -> Written {
-        let at = self.constants.wrapping_add(i.wrapping_mul(8));
-        let p = [
-            byte(bytes, at),
-            byte(bytes, at.wrapping_add(1)),
-            byte(bytes, at.wrapping_add(2)),
-            byte(bytes, at.wrapping_add(3)),
-        ];
-        let q = number(bytes, at.wrapping_add(4), 4);
-        Written {
-            p: i32::from_le_bytes(p),
-            q: (q & 0xffff_ffff) as u32,
-        }
-    }
-
-    /// The operation and the argument of the instruction at the index.
-    pub fn instruction(self, bytes: &[u8], i: usize) -> (u8, u8) {
-        let at = self.instructions.wrapping_add(i.wrapping_mul(2));
-        (byte(bytes, at), byte(bytes, at.wrapping_add(1)))
-    }
 }

@@ -28,7 +28,7 @@ fn sliding_number(code: i64) -> Exact {
         sliding_count(code)
     };
     Exact {
-        top: count as i128,
+        top: i128::from(count),
         bottom: 4096,
     }
 }
@@ -42,7 +42,7 @@ impl Marking {
     /// The greatest code with a number; the least is its negation.
     pub fn last(self) -> i64 {
         match self {
-            Marking::Ruled(division) => 2147483647i64.wrapping_mul(division as i64),
+            Marking::Ruled(division) => 2147483647i64.wrapping_mul(i64::from(division)),
             Marking::Sliding => 81919,
         }
     }
@@ -58,48 +58,42 @@ impl Marking {
         }
         match self {
             Marking::Ruled(division) => End::Number(Exact {
-                top: code as i128,
-                bottom: division as i128,
+                top: i128::from(code),
+                bottom: i128::from(division),
             }),
             Marking::Sliding => End::Number(sliding_number(code)),
         }
     }
 
-    /// The greatest code whose place is not above the end, which is not plus infinity.
-    pub fn below(self, end: End) -> i64 {
-        // the first is never above the end, the second always is
+    // The last code that passes, where the codes up to it pass. The one before the first with a number does, the one after the last does not.
+    fn last_that<F: Fn(i64) -> bool>(self, passes: F) -> i64
+        requires { F.IsAlwaysCallable passes }
+    {
         let mut low = self.last().wrapping_neg().wrapping_sub(1);
         let mut high = self.last().wrapping_add(1);
+        // a while would need its end proved by hand; 64 halvings are enough
         for _ in 0..64 {
             if high.wrapping_sub(low) <= 1 {
                 break;
             }
             let code = middle(low, high);
-            if end.is_below(self.place(code)) {
-                high = code;
-            } else {
+            if passes(code) {
                 low = code;
+            } else {
+                high = code;
             }
         }
         low
     }
 
+    /// The greatest code whose place is not above the end, which is not plus infinity.
+    pub fn below(self, end: End) -> i64 {
+        self.last_that(|code| !end.is_below(self.place(code)))
+    }
+
     /// The least code whose place is not below the end, which is not minus infinity.
     pub fn above(self, end: End) -> i64 {
-        // the first is always below the end, the second never is
-        let mut low = self.last().wrapping_neg().wrapping_sub(1);
-        let mut high = self.last().wrapping_add(1);
-        for _ in 0..64 {
-            if high.wrapping_sub(low) <= 1 {
-                break;
-            }
-            let code = middle(low, high);
-            if self.place(code).is_below(end) {
-                low = code;
-            } else {
-                high = code;
-            }
-        }
-        high
+        self.last_that(|code| self.place(code).is_below(end))
+            .wrapping_add(1)
     }
 }

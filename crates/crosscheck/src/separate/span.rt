@@ -81,12 +81,19 @@ pub fn negation(y: Held) -> Held {
     Some(y?.negated())
 }
 
-pub fn sum(x: Held, y: Held) -> Held {
+// The ends that the operation makes of those of each side.
+fn by_ends<F: Fn(End, End) -> End>(x: Held, y: Held, operation: F) -> Held
+    requires { F.IsAlwaysCallable operation }
+{
     let (x, y) = (x?, y?);
     Some(Span {
-        lower: x.lower.plus(y.lower),
-        upper: x.upper.plus(y.upper),
+        lower: operation(x.lower, y.lower),
+        upper: operation(x.upper, y.upper),
     })
+}
+
+pub fn sum(x: Held, y: Held) -> Held {
+    by_ends(x, y, End::plus)
 }
 
 pub fn difference(x: Held, y: Held) -> Held {
@@ -118,19 +125,11 @@ pub fn square(y: Held) -> Held {
 }
 
 pub fn lesser(x: Held, y: Held) -> Held {
-    let (x, y) = (x?, y?);
-    Some(Span {
-        lower: x.lower.least(y.lower),
-        upper: x.upper.least(y.upper),
-    })
+    by_ends(x, y, End::least)
 }
 
 pub fn greater(x: Held, y: Held) -> Held {
-    let (x, y) = (x?, y?);
-    Some(Span {
-        lower: x.lower.most(y.lower),
-        upper: x.upper.most(y.upper),
-    })
+    by_ends(x, y, End::most)
 }
 
 pub fn join(x: Held, y: Held) -> Held {
