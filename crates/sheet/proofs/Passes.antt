@@ -2,6 +2,7 @@
 use Rattle.std.proofs.Common.{◌≡◌, ℕ, zero, suc, ◌+◌, ◌*◌, ◌≤◌, max, Bool, true, false, not, ◌&&◌, ◌||◌, List, get_or, replicate, Some, None, Option, sym, refl, ap, ◌∙◌, arith}
 use Rattle.sheet.specs.declared.operation.Operation.{Operation}
 use Rattle.sheet.specs.declared.operation.Operation.TheVariants.{Line, Keep}
+use Rattle.sheet.specs.declared.tally.FirstUse.TheVariants.{Unnamed}
 use Rattle.sheet.specs.declared.tally.Tally.{Tally}
 use Rattle.sheet.specs.Tallies.{start, first_use, used, is_read, After}
 use Rattle.sheet.specs.Rules.{first_below}
@@ -34,9 +35,9 @@ pub record SoFar (bs : List ℕ) (i : ℕ) (t : Tally) : Type 0 where
   pub verdicts : t.verdicts.«now» ≡ depth (verdict_moves_at bs) i
   pub most_verdicts : t.verdicts.greatest ≡ greatest (verdict_moves_at bs) i
   pub few_verdicts : t.verdicts.«now» ≤ 2 * i
-  pub lines : (a : ℕ) → get_or t.first_uses a None ≡ first_use (first_read (reads_at bs a) (keeps_at bs a) i) (any_below (keeps_at bs a) i)
+  pub lines : (a : ℕ) → get_or t.first_uses a Unnamed ≡ first_use (first_read (reads_at bs a) (keeps_at bs a) i) (any_below (keeps_at bs a) i)
 
-unused : (n a : ℕ) → get_or (replicate n None) a None ≡ first_use false false
+unused : (n a : ℕ) → get_or (replicate n Unnamed) a Unnamed ≡ first_use false false
 unused zero a = refl
 unused (suc n) zero = refl
 unused (suc n) (suc a) = unused n a

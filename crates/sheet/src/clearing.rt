@@ -57,7 +57,7 @@ impl FiledSheet<'_> {
         for (place, instruction) in self.instructions.iter().enumerate() {
             let [byte, argument] = *instruction;
             let operation = self.check_instruction(place, byte, argument, &tally)?;
-            tally = tally.after(operation, argument);
+            tally.add(operation, argument);
         }
         if tally.ranges.now > 0 || tally.verdicts.now > 0 {
             return Err(ClearingFault::NotEmpty(self.instructions.len()));

@@ -12,7 +12,7 @@ loop-place-preserved c =
     let s = c.args.self.now in
     let l = c.loop-place in
     let e = c.in_ok-operation.ensures in
-    rule_kept s.bytes.now s.constants.now s.instructions.now s.constants_laid s.instructions_laid l.place l.tally _ l.invariant (omega arith) c.in_ok-operation.operation c.after-tally.result e.0 e.1 c.after-tally.ensures
+    rule_kept s.bytes.now s.constants.now s.instructions.now s.constants_laid s.instructions_laid l.place l.tally _ l.invariant (omega arith) c.in_ok-operation.operation c.add.new.self e.0 e.1 c.add.ensures
 
 pub returns-in_err-operation : goal.returns-in_err-operation
 returns-in_err-operation c =
