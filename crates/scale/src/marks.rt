@@ -68,6 +68,8 @@ impl<M: MarkedScale> ArithmeticScale for M {
         self.rounded(rounding, count)
     }
 
+    // never inlined, so that what asks for quotients stays small enough to be inlined where it is used
+    #[inline(never)]
     fn quotient(&self, rounding: Rounding, a: i64, b: i64) -> i64 {
         let parts = i64::from(self.parts());
         let count = self
