@@ -63,7 +63,6 @@ pub fn less<S: OrderedScale>(scale: &S, x: Range, y: Range) -> Verdict
 }
 
 /// Whether x ≤ y, which is `not y < x`.
-#[tactic(auto, using(crate::proofs::Connecting::at_most_by_less))]
 pub fn at_most<S: OrderedScale>(scale: &S, x: Range, y: Range) -> Verdict
     ensures { Exactly (Comparisons IsAtMost (Holds (S.place scale.now) x) (Holds (S.place scale.now) y)) result }
 {

@@ -43,11 +43,16 @@ impl Verdict {
         }
     }
 
-    /// The truths of `x or y`, which is `not (not x and not y)`.
+    /// The truths of `x or y`.
     pub fn or(self, other: Verdict) -> Verdict
         ensures { Exactly (OfTruths ◌||◌ (Allows self) (Allows other)) result }
     {
-        self.not().and(other.not()).not()
+        match (self, other) {
+            (Verdict::Impossible, v) | (v, Verdict::Impossible) => v,
+            (Verdict::Void, _) | (_, Verdict::Void) => Verdict::Void,
+            (Verdict::Certain, _) | (_, Verdict::Certain) => Verdict::Certain,
+            (Verdict::Open, Verdict::Open) => Verdict::Open,
+        }
     }
 
     /// The truths of `not x`.
